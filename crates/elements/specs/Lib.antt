@@ -1,0 +1,6 @@
+pub mod Refusals
+pub mod Quality
+pub mod Points
+pub mod Steps
+pub mod Causes
+pub mod Promises

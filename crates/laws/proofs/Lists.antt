@@ -1,0 +1,172 @@
+-- Laws of lists: storing in a row, values by index, parts written back, rings.
+use Prim.Native.Nat.{ℕ, zero, suc, _+_, _-_, _*_, _%_, _<_, _≤_}
+use mathlib.Core.Path.{_≡_, refl, sym, ap, _∙_}
+use mathlib.Core.Bool.{Bool, true, false}
+use mathlib.Core.Logic.{_⊎_, inl, inr, ⊎-elim}
+use mathlib.Core.List.{List, [], _∷_, _++_, append-assoc, append-nil}
+use native.Mathlib.Omega.{arith}
+use native.Mathlib.Numerals.{add-one}
+use native.Mathlib.Nat.{zero-add, add-zero, add-suc, add-assoc, add-sub-of-le, mod-add-mod, mod-lt, mod-eq-of-lt, mod-eq-sub-mod}
+use native.Mathlib.Decide.{decLt}
+use lib.ListN.{length, set, take, drop, getD, length-append, length-take, length-drop, length-set, List·getD-append}
+use lib.Seq.{sets, sets-eq, length-sets, set-out, drop-drop, take-at, drop-at, getD-at, getD-take, getD-drop, getD-append-add, ext-getD}
+use Rattle.laws.specs.Lists.{put, tabulate, ring, padded}
+
+-- ---- storing values in a row
+
+module _ {A : Type 0} where
+  pub sets-past : (l : List A) (i : ℕ) (vs : List A) → length l ≤ i → sets l i vs ≡ l
+  sets-past l i [] h = refl
+  sets-past l i (v ∷ vs) h = rw (set-out l i v h) (sets-past l (suc i) vs (omega arith))
+
+  pub sets-all : (l vs : List A) → length vs ≤ length l → sets l 0 vs ≡ vs ++ drop (length vs) l
+  sets-all l vs h = sets-eq vs l 0 (rw zero-add h) ∙ rw zero-add
+
+  pub sets-append : (l : List A) (i : ℕ) (vs ws : List A) → sets l i (vs ++ ws) ≡ sets (sets l i vs) (i + length vs) ws
+  sets-append l i [] ws = rw add-zero
+  sets-append l i (v ∷ vs) ws = sets-append (set l i v) (suc i) vs ws ∙ ap (λ (j : ℕ). sets (sets (set l i v) (suc i) vs) j ws) (omega arith)
+
+  -- ---- a part that was lent
+
+  pub length-put : (d : List A) (at : ℕ) (s : List A) → at + length s ≤ length d → length (put d at s) ≡ length d
+  unfolding put
+  length-put d at s h = simp (length-append, length-take, length-drop) (omega arith)
+
+  -- values stored from the start of the part are stored from `at` on
+  pub put-sets : (d : List A) (at : ℕ) (vs : List A) → at + length vs ≤ length d → put d at (sets (drop at d) 0 vs) ≡ sets d at vs
+  unfolding put
+  put-sets d at vs h =
+      let part = drop at d in
+      let lp : length vs ≤ length part = simp length-drop (omega arith) in
+      let ls : length (sets part 0 vs) ≡ length part = length-sets part 0 vs in
+      let none : drop (length (sets part 0 vs)) part ≡ [] = rw ls (lib.Seq.drop-length part) in
+      rw (none, append-nil, sets-all part vs lp, drop-drop (length vs) at d) (sym (sets-eq vs d at h ∙ append-assoc (take at d) vs _))
+
+  pub put-put : (d : List A) (at : ℕ) (s t : List A) → at + length s + length t ≤ length d → put (put d at s) (at + length s) t ≡ put d at (s ++ t)
+  unfolding put
+  put-put d at s t h =
+      let rest = drop (length s) (drop at d) in
+      let p = take at d ++ s in
+      let lp : length p ≡ at + length s = simp (length-append, length-take) (omega arith) in
+      rw (← append-assoc (take at d) s rest, take-at p rest (at + length s) lp, drop-at p rest (at + length s) lp)
+      (simp (append-assoc, drop-drop, length-append, add-assoc))
+
+  -- what stood before the part, and what is read out of it
+  pub getD-put-before : (d : List A) (at : ℕ) (s : List A) (i : ℕ) (z : A) → i < at → at ≤ length d → getD (put d at s) i z ≡ getD d i z
+  unfolding put
+  getD-put-before d at s i z h l =
+      let k : i < length (take at d) = simp length-take (omega arith) in
+      List·getD-append (take at d) _ z i k ∙ getD-take at d i z h
+
+  pub getD-put-after : (d : List A) (at : ℕ) (s : List A) (i : ℕ) (z : A) → at + length s ≤ i → at + length s ≤ length d → getD (put d at s) i z ≡ getD d i z
+  unfolding put
+  getD-put-after d at s i z h l =
+      let p = take at d ++ s in
+      let rest = drop (length s) (drop at d) in
+      let lp : length p ≡ at + length s = simp (length-append, length-take) (omega arith) in
+      let j = i - (at + length s) in
+      let e : i ≡ length p + j = omega arith in
+      let e2 : at + length s + j ≡ i = omega arith in
+      rw (← append-assoc (take at d) s rest, ap (λ (n : ℕ). getD (p ++ rest) n z) e)
+      (rw (getD-append-add p rest j z, drop-drop, getD-drop, e2))
+
+  pub put-part : (d : List A) (at : ℕ) (s : List A) → at + length s ≤ length d → take (length s) (drop at (put d at s)) ≡ s
+  unfolding put
+  put-part d at s h =
+      let lt : length (take at d) ≡ at = simp length-take (omega arith) in
+      ap (take (length s)) (drop-at (take at d) _ at lt) ∙ take-at s _ (length s) refl
+
+  -- ---- values by index
+
+  pub length-tabulate : (f : ℕ → A) (i n : ℕ) → length (tabulate f i n) ≡ n
+  unfolding tabulate
+  length-tabulate f i zero = refl
+  length-tabulate f i (suc n) = ap suc (length-tabulate f (suc i) n)
+
+  pub tabulate-ext : (f g : ℕ → A) (i n : ℕ) → ((j : ℕ) → i ≤ j → j < i + n → f j ≡ g j) → tabulate f i n ≡ tabulate g i n
+  unfolding tabulate
+  tabulate-ext f g i zero h = refl
+  tabulate-ext f g i (suc n) h = rw (h i (omega arith) (omega arith), tabulate-ext f g (suc i) n (λ j a b. h j (omega arith) (omega arith)))
+
+  pub tabulate-add : (f : ℕ → A) (i n m : ℕ) → tabulate f i (n + m) ≡ tabulate f i n ++ tabulate f (i + n) m
+  unfolding tabulate
+  tabulate-add f i zero m = rw (zero-add, add-zero)
+  tabulate-add f i (suc n) m =
+      let e : suc n + m ≡ suc (n + m) = omega arith in
+      let g : suc i + n ≡ i + suc n = omega arith in
+      ap (tabulate f i) e ∙ ap (λ (l : List A). f i ∷ l) (tabulate-add f (suc i) n m ∙ ap (λ (j : ℕ). tabulate f (suc i) n ++ tabulate f j m) g)
+
+  pub tabulate-snoc : (f : ℕ → A) (i n : ℕ) → tabulate f i (suc n) ≡ tabulate f i n ++ (f (i + n) ∷ [])
+  unfolding tabulate
+  tabulate-snoc f i n = ap (tabulate f i) (sym (add-one n)) ∙ tabulate-add f i n 1
+
+  pub drop-tabulate : (f : ℕ → A) (i j n : ℕ) → j ≤ n → drop j (tabulate f i n) ≡ tabulate f (i + j) (n - j)
+  drop-tabulate f i j n h =
+      ap (λ (k : ℕ). drop j (tabulate f i k)) (sym (add-sub-of-le h))
+      ∙ (ap (drop j) (tabulate-add f i j (n - j)) ∙ drop-at (tabulate f i j) _ j (length-tabulate f i j))
+
+  pub take-tabulate : (f : ℕ → A) (i j n : ℕ) → j ≤ n → take j (tabulate f i n) ≡ tabulate f i j
+  take-tabulate f i j n h =
+      ap (λ (k : ℕ). take j (tabulate f i k)) (sym (add-sub-of-le h))
+      ∙ (ap (take j) (tabulate-add f i j (n - j)) ∙ take-at (tabulate f i j) _ j (length-tabulate f i j))
+
+  pub getD-tabulate : (f : ℕ → A) (i n j : ℕ) (d : A) → j < n → getD (tabulate f i n) j d ≡ f (i + j)
+  unfolding tabulate
+  getD-tabulate f i n j d h =
+      let e : n ≡ j + suc (n - suc j) = omega arith in
+      rw (ap (tabulate f i) e, tabulate-add f i j (suc (n - suc j))) (getD-at (tabulate f i j) (f (i + j)) _ d j (length-tabulate f i j))
+
+  -- an index that is shifted
+  pub tabulate-shift : (f : ℕ → A) (i n : ℕ) → tabulate f i n ≡ tabulate (λ (j : ℕ). f (i + j)) 0 n
+  tabulate-shift f i n =
+      ext-getD (f i) _ _ (length-tabulate f i n ∙ sym (length-tabulate _ 0 n))
+      (λ j q.
+        let l : j < n = (let q2 = rw (length-tabulate f i n) at q in q2) in
+        getD-tabulate f i n j (f i) l ∙ sym (getD-tabulate (λ (j : ℕ). f (i + j)) 0 n j (f i) l ∙ ap (λ (k : ℕ). f (i + k)) (zero-add j)))
+
+-- ---- rings
+
+-- a place is taken round once: (p + j) % m + i and p + (j + i) are the same place
+pub mod-add : (p j i m : ℕ) → ((p + j) % m + i) % m ≡ (p + (j + i)) % m
+mod-add p j i m = mod-add-mod (p + j) m i ∙ ap (λ (k : ℕ). k % m) (add-assoc p j i)
+
+-- fewer than m steps never come back to the same place
+pub mod-apart : (p i j m : ℕ) → i < j → j < m → (p + i) % m ≡ (p + j) % m → ⊥
+mod-apart p i j m hi hj e =
+    let x = (p + i) % m in
+    let d = j - i in
+    let xs : x < m = mod-lt (p + i) (omega arith) in
+    let back : (x + d) % m ≡ x = mod-add p i d m ∙ (ap (λ (k : ℕ). (p + k) % m) (omega arith) ∙ sym e) in
+    elim (decLt (x + d) m) [
+      yes l ↦ let z : x + d ≡ x = sym (mod-eq-of-lt l) ∙ back in omega arith
+      | no l ↦
+        let z : x + d - m ≡ x = sym (mod-eq-of-lt (omega arith)) ∙ (sym (mod-eq-sub-mod (omega arith)) ∙ back) in
+        omega arith ]
+
+module _ {A : Type 0} where
+  pub ring-ext : (f g : ℕ → A) (m p n : ℕ) → ((i : ℕ) → i < n → f ((p + i) % m) ≡ g ((p + i) % m)) → ring f m p n ≡ ring g m p n
+  unfolding ring
+  ring-ext f g m p n h = tabulate-ext _ _ 0 n (λ i a b. h i (omega arith))
+
+  pub length-ring : (f : ℕ → A) (m p n : ℕ) → length (ring f m p n) ≡ n
+  unfolding ring
+  length-ring f m p n = length-tabulate _ 0 n
+
+  -- the oldest j leave
+  pub ring-drop : (f : ℕ → A) (m p n j : ℕ) → j ≤ n → drop j (ring f m p n) ≡ ring f m ((p + j) % m) (n - j)
+  unfolding ring
+  ring-drop f m p n j h =
+      let at : ℕ → A = λ i. f ((p + i) % m) in
+      drop-tabulate at 0 j n h
+      ∙ (ap (λ (k : ℕ). tabulate at k (n - j)) (zero-add j)
+      ∙ (tabulate-shift at j (n - j) ∙ tabulate-ext _ _ 0 (n - j) (λ i a b. ap f (sym (mod-add p j i m)))))
+
+  -- one more at the end, the others left alone
+  pub ring-push : (f g : ℕ → A) (m p n : ℕ) → n < m → ((q : ℕ) → (q ≡ (p + n) % m → ⊥) → g q ≡ f q)
+      → ring g m p (suc n) ≡ ring f m p n ++ (g ((p + n) % m) ∷ [])
+  unfolding ring
+  ring-push f g m p n h same =
+      tabulate-snoc (λ (i : ℕ). g ((p + i) % m)) 0 n
+      ∙ (ap (λ (k : ℕ). tabulate (λ (i : ℕ). g ((p + i) % m)) 0 n ++ (g ((p + k) % m) ∷ [])) (zero-add n)
+      ∙ ap (λ (l : List A). l ++ (g ((p + n) % m) ∷ []))
+        (tabulate-ext _ _ 0 n (λ i a b. same ((p + i) % m) (mod-apart p i n m (omega arith) h))))

@@ -1,0 +1,6 @@
+pub mod Choice
+pub mod Bits
+pub mod Numbers
+pub mod Lists
+pub mod Window
+pub mod Promises

@@ -1,0 +1,138 @@
+//! The stored sample: answers of the Rust on octets, which the program crates/replay holds the proved library to
+//! where no Rust is at hand. A line is 32 bytes: a letter for the kind, what is given in seven octets, what the Rust
+//! answers in seven octets, both in hexadecimal and filled up with zeros. A small letter reads octets to fields, a
+//! capital writes them. Fields are those of `judge`; a signed number is moved up by half its range, its high octet
+//! first, so that it is told apart from its octets on the wire.
+use iec104::types::{MBoNa1, MItNa1, MMeNb1, MMeNc1};
+
+use crate::{
+    hex, judge,
+    numbers::edges,
+    octets::{counter_fields, marks_and_state, octets, step_fields},
+    random::Random,
+};
+
+const SEED: u64 = 104;
+const RANDOM_NUMBERS: usize = 100;
+const WIDTH: usize = 7;
+
+pub fn write() -> bool {
+    let mut lines = Vec::new();
+    marks(&mut lines);
+    counter_octet_and_cause(&mut lines);
+    step_position(&mut lines);
+    commands(&mut lines);
+    let mut random = Random::from_seed(SEED);
+    let drawn: Vec<u32> = (0..RANDOM_NUMBERS).map(|_| random.next_u32()).collect();
+    for bits in edges().chain(drawn) {
+        sixteen_bits(&mut lines, bits as u16);
+        thirty_two_bits(&mut lines, bits);
+    }
+    print!("{}", lines.concat());
+    true
+}
+
+fn line(kind: char, given: &[u8], answer: &[u8]) -> String {
+    let filled = |octets: &[u8]| {
+        let mut all = [0; WIDTH];
+        all[..octets.len()].copy_from_slice(octets);
+        hex::from_octets(&all)
+    };
+    format!("{kind} {} {}\n", filled(given), filled(answer))
+}
+
+fn marks(lines: &mut Vec<String>) {
+    for octet in octets() {
+        lines.push(line('q', &[octet], &judge::read_qds(octet)));
+        lines.push(line('s', &[octet], &judge::read_siq(octet)));
+        lines.push(line('d', &[octet], &judge::read_diq(octet)));
+    }
+    for fields in marks_and_state(2) {
+        lines.push(line('Q', &fields, &[judge::write_qds(fields)]));
+        lines.push(line('S', &fields, &[judge::write_siq(fields)]));
+    }
+    for fields in marks_and_state(4) {
+        lines.push(line('D', &fields, &[judge::write_diq(fields)]));
+    }
+}
+
+fn counter_octet_and_cause(lines: &mut Vec<String>) {
+    for octet in octets() {
+        lines.push(line('c', &[octet], &judge::read_seq_qd(octet)));
+        lines.push(line('i', &[octet], &judge::read_coi(octet)));
+        // What is read is in range, so that both sides write it.
+        let fields = judge::read_coi(octet);
+        lines.push(line('I', &fields, &[judge::write_coi(fields)]));
+    }
+    for fields in counter_fields().filter(|[_, _, _, seq]| *seq <= 31) {
+        lines.push(line('C', &fields, &[judge::write_seq_qd(fields)]));
+    }
+}
+
+fn step_position(lines: &mut Vec<String>) {
+    for octet in octets() {
+        for octets in [[octet, 0], [0x40, octet]] {
+            let (value, [transient, quality @ ..]) = judge::read_vti(octets);
+            let [iv, nt, sb, bl, ov] = quality;
+            let fields = [raised_i8(value), transient, iv, nt, sb, bl, ov];
+            lines.push(line('v', &octets, &fields));
+        }
+    }
+    for (value, fields) in (-64..=63).zip(step_fields().cycle()) {
+        let [transient, iv, nt, sb, bl, ov] = fields;
+        let given = [raised_i8(value), transient, iv, nt, sb, bl, ov];
+        lines.push(line('V', &given, &judge::write_vti(value, fields)));
+    }
+}
+
+fn commands(lines: &mut Vec<String>) {
+    for octet in octets() {
+        lines.push(line('g', &[octet], &[judge::read_interrogation(octet)]));
+        lines.push(line('G', &[octet], &judge::write_interrogation(octet)));
+        lines.push(line('n', &[octet], &[judge::read_counter_interrogation(octet)]));
+        lines.push(line('N', &[octet], &judge::write_counter_interrogation(octet)));
+    }
+}
+
+fn sixteen_bits(lines: &mut Vec<String>, bits: u16) {
+    let [low, high] = bits.to_le_bytes();
+    let read: MMeNb1 = judge::read(&[low, high, 0]);
+    lines.push(line('h', &[low, high], &raised_i16(read.sva)));
+
+    let sva = bits.cast_signed();
+    let [low, high, _] = judge::written(&MMeNb1 { sva, ..Default::default() });
+    lines.push(line('H', &raised_i16(sva), &[low, high]));
+}
+
+fn thirty_two_bits(lines: &mut Vec<String>, bits: u32) {
+    let [a, b, c, d] = bits.to_le_bytes();
+    let octets = [a, b, c, d, 0];
+    let wire = &octets[..4];
+    let counter: MItNa1 = judge::read(&octets);
+    lines.push(line('w', wire, &raised_i32(counter.bcr)));
+    let string: MBoNa1 = judge::read(&octets);
+    lines.push(line('b', wire, &string.bsi.to_be_bytes()));
+    let float: MMeNc1 = judge::read(&octets);
+    lines.push(line('f', wire, &float.value.to_bits().to_be_bytes()));
+
+    let bcr = bits.cast_signed();
+    let counter: [u8; 5] = judge::written(&MItNa1 { bcr, ..Default::default() });
+    lines.push(line('W', &raised_i32(bcr), &counter[..4]));
+    let string: [u8; 5] = judge::written(&MBoNa1 { bsi: bits, ..Default::default() });
+    lines.push(line('B', &bits.to_be_bytes(), &string[..4]));
+    let value = f32::from_bits(bits);
+    let float: [u8; 5] = judge::written(&MMeNc1 { value, ..Default::default() });
+    lines.push(line('F', &bits.to_be_bytes(), &float[..4]));
+}
+
+fn raised_i8(value: i8) -> u8 {
+    value.cast_unsigned() ^ 0x80
+}
+
+fn raised_i16(value: i16) -> [u8; 2] {
+    (value.cast_unsigned() ^ 0x8000).to_be_bytes()
+}
+
+fn raised_i32(value: i32) -> [u8; 4] {
+    (value.cast_unsigned() ^ 0x8000_0000).to_be_bytes()
+}
