@@ -24,8 +24,8 @@ const USAGE: &str = "grassglisten-host COMMAND
                                           advance=MS skip=MS first=N";
 
 const SEED: u64 = 104;
-const QUICK_NUMBERS: u32 = 200_000;
-const FULL_NUMBERS: u32 = 20_000_000;
+const QUICK_NUMBERS: u32 = 1_000_000;
+const FULL_NUMBERS: u32 = 50_000_000;
 
 fn main() -> ExitCode {
     let words: Vec<String> = env::args().skip(1).collect();
@@ -33,8 +33,8 @@ fn main() -> ExitCode {
     let done = match words.as_slice() {
         ["compare", options @ ..] => compare(options),
         ["sample"] => Ok(sample::write()),
-        ["rust", "frame", hex] => rust::frame(hex),
-        ["rust", "asdu", hex] => rust::asdu(hex),
+        ["rust", "frame", hex @ ..] => rust::frame(&hex.concat()),
+        ["rust", "asdu", hex @ ..] => rust::asdu(&hex.concat()),
         ["rust", "link", words @ ..] => rust::link(words),
         _ => Err(USAGE.to_owned()),
     };

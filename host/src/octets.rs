@@ -31,9 +31,8 @@ pub fn octets() -> impl Iterator<Item = u8> {
 pub fn marks_and_state(states: u8) -> impl Iterator<Item = [u8; 5]> + Clone {
     let bit = |marks: u8, place: u8| marks >> place & 1;
     (0..16).flat_map(move |marks| {
-        (0..states).map(move |state| {
-            [bit(marks, 3), bit(marks, 2), bit(marks, 1), bit(marks, 0), state]
-        })
+        (0..states)
+            .map(move |state| [bit(marks, 3), bit(marks, 2), bit(marks, 1), bit(marks, 0), state])
     })
 }
 
@@ -168,14 +167,13 @@ fn write_step_position(report: &mut Report, value: i8, fields: [u8; 6]) {
     cuts(report, WRITING_CUTS, (value, fields), ours, rust);
 }
 
+/// We carry the qualifier as the octet that it is: the Rust must keep all of it.
 fn commands(report: &mut Report) {
     report.group("elements of types 100 and 101: every octet read and written");
     for octet in octets() {
-        let ours = proved::read_command(octet);
-        report.same((100, octet), ours, judge::read_interrogation(octet));
-        report.same((101, octet), ours, judge::read_counter_interrogation(octet));
-        let ours = [proved::write_command(octet)];
-        report.same((100, octet), ours, judge::write_interrogation(octet));
-        report.same((101, octet), ours, judge::write_counter_interrogation(octet));
+        report.same((100, octet), octet, judge::read_interrogation(octet));
+        report.same((100, octet), [octet], judge::write_interrogation(octet));
+        report.same((101, octet), octet, judge::read_counter_interrogation(octet));
+        report.same((101, octet), [octet], judge::write_counter_interrogation(octet));
     }
 }

@@ -13,7 +13,8 @@ mod exported {
         pub fn gg_write_seq_qd(fields: *const u8, len: usize, out: *mut u8, out_len: usize) -> u8;
         pub fn gg_read_coi(octet: u8, fields: *mut u8, len: usize);
         pub fn gg_write_coi(fields: *const u8, len: usize, out: *mut u8, out_len: usize) -> u8;
-        pub fn gg_read_vti(octets: *const u8, len: usize, fields: *mut u8, fields_len: usize) -> i8;
+        pub fn gg_read_vti(octets: *const u8, len: usize, fields: *mut u8, fields_len: usize)
+        -> i8;
         pub fn gg_write_vti(
             value: i8,
             fields: *const u8,
@@ -27,8 +28,6 @@ mod exported {
         pub fn gg_write_i32(value: i32, out: *mut u8, len: usize);
         pub fn gg_read_u32(octets: *const u8, len: usize) -> u32;
         pub fn gg_write_u32(value: u32, out: *mut u8, len: usize);
-        pub fn gg_read_command(octet: u8) -> u8;
-        pub fn gg_write_command(qualifier: u8) -> u8;
     }
 }
 
@@ -80,7 +79,9 @@ pub fn read_seq_qd(octet: u8) -> [u8; 4] {
 }
 
 pub fn write_seq_qd(fields: [u8; 4]) -> Written<1> {
-    writing(|out, len| unsafe { exported::gg_write_seq_qd(fields.as_ptr(), fields.len(), out, len) })
+    writing(|out, len| unsafe {
+        exported::gg_write_seq_qd(fields.as_ptr(), fields.len(), out, len)
+    })
 }
 
 pub fn read_coi(octet: u8) -> [u8; 2] {
@@ -119,11 +120,3 @@ macro_rules! number {
 number!(i16, 2, read_i16, write_i16, gg_read_i16, gg_write_i16);
 number!(i32, 4, read_i32, write_i32, gg_read_i32, gg_write_i32);
 number!(u32, 4, read_u32, write_u32, gg_read_u32, gg_write_u32);
-
-pub fn read_command(octet: u8) -> u8 {
-    unsafe { exported::gg_read_command(octet) }
-}
-
-pub fn write_command(qualifier: u8) -> u8 {
-    unsafe { exported::gg_write_command(qualifier) }
-}

@@ -2,7 +2,7 @@
 use std::{collections::BTreeMap, fmt::Debug};
 
 /// The list of differences that are known and meant, as the project's documents have it.
-const DIFFERENCES: &str = include_str!("/tmp/stub/DIFFERENCES.md");
+const DIFFERENCES: &str = include_str!("../../docs/DIFFERENCES.md");
 
 /// How many of the differences outside the list are shown.
 const SHOWN: u64 = 10;
@@ -77,7 +77,9 @@ impl Report {
         let total: u64 = self.groups.iter().map(|(_, count)| count).sum();
         println!("{total:>12}  comparisons in all");
         for (entry, Listed { count, smallest }) in &self.listed {
-            println!("{count:>12}  differ as {entry} of docs/DIFFERENCES.md says; the smallest: {smallest}");
+            println!(
+                "{count:>12}  differ as {entry} of docs/DIFFERENCES.md says; the smallest: {smallest}"
+            );
         }
         println!("{:>12}  differences outside docs/DIFFERENCES.md", self.unlisted);
         self.unlisted == 0

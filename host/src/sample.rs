@@ -1,8 +1,8 @@
 //! The stored sample: answers of the Rust on octets, which the program crates/replay holds the proved library to
-//! where no Rust is at hand. A line is 32 bytes: a letter for the kind, what is given in seven octets, what the Rust
-//! answers in seven octets, both in hexadecimal and filled up with zeros. A small letter reads octets to fields, a
-//! capital writes them. Fields are those of `judge`; a signed number is moved up by half its range, its high octet
-//! first, so that it is told apart from its octets on the wire.
+//! where no Rust is at hand. A line is 36 bytes: a letter for the kind, eight octets given and the eight octets that
+//! the Rust answers, in hexadecimal and filled up with zeros. A small letter reads octets to fields, a capital writes
+//! them. Fields are those of `judge`. A number has its high octet first, and a signed one is moved up by half its
+//! range, so that it does not look like its octets on the wire.
 use iec104::types::{MBoNa1, MItNa1, MMeNb1, MMeNc1};
 
 use crate::{
@@ -14,14 +14,13 @@ use crate::{
 
 const SEED: u64 = 104;
 const RANDOM_NUMBERS: usize = 100;
-const WIDTH: usize = 7;
+const WIDTH: usize = 8;
 
 pub fn write() -> bool {
     let mut lines = Vec::new();
     marks(&mut lines);
     counter_octet_and_cause(&mut lines);
     step_position(&mut lines);
-    commands(&mut lines);
     let mut random = Random::from_seed(SEED);
     let drawn: Vec<u32> = (0..RANDOM_NUMBERS).map(|_| random.next_u32()).collect();
     for bits in edges().chain(drawn) {
@@ -72,26 +71,17 @@ fn counter_octet_and_cause(lines: &mut Vec<String>) {
 fn step_position(lines: &mut Vec<String>) {
     for octet in octets() {
         for octets in [[octet, 0], [0x40, octet]] {
-            let (value, [transient, quality @ ..]) = judge::read_vti(octets);
-            let [iv, nt, sb, bl, ov] = quality;
-            let fields = [raised_i8(value), transient, iv, nt, sb, bl, ov];
-            lines.push(line('v', &octets, &fields));
+            let (value, fields) = judge::read_vti(octets);
+            lines.push(line('v', &octets, &step_octets(value, fields)));
         }
     }
     for (value, fields) in (-64..=63).zip(step_fields().cycle()) {
-        let [transient, iv, nt, sb, bl, ov] = fields;
-        let given = [raised_i8(value), transient, iv, nt, sb, bl, ov];
-        lines.push(line('V', &given, &judge::write_vti(value, fields)));
+        lines.push(line('V', &step_octets(value, fields), &judge::write_vti(value, fields)));
     }
 }
 
-fn commands(lines: &mut Vec<String>) {
-    for octet in octets() {
-        lines.push(line('g', &[octet], &[judge::read_interrogation(octet)]));
-        lines.push(line('G', &[octet], &judge::write_interrogation(octet)));
-        lines.push(line('n', &[octet], &[judge::read_counter_interrogation(octet)]));
-        lines.push(line('N', &[octet], &judge::write_counter_interrogation(octet)));
-    }
+fn step_octets(value: i8, [transient, iv, nt, sb, bl, ov]: [u8; 6]) -> [u8; 7] {
+    [transient, iv, nt, sb, bl, ov, value.cast_unsigned() ^ 0x80]
 }
 
 fn sixteen_bits(lines: &mut Vec<String>, bits: u16) {
@@ -113,7 +103,7 @@ fn thirty_two_bits(lines: &mut Vec<String>, bits: u32) {
     let string: MBoNa1 = judge::read(&octets);
     lines.push(line('b', wire, &string.bsi.to_be_bytes()));
     let float: MMeNc1 = judge::read(&octets);
-    lines.push(line('f', wire, &float.value.to_bits().to_be_bytes()));
+    lines.push(line('b', wire, &float.value.to_bits().to_be_bytes()));
 
     let bcr = bits.cast_signed();
     let counter: [u8; 5] = judge::written(&MItNa1 { bcr, ..Default::default() });
@@ -122,11 +112,7 @@ fn thirty_two_bits(lines: &mut Vec<String>, bits: u32) {
     lines.push(line('B', &bits.to_be_bytes(), &string[..4]));
     let value = f32::from_bits(bits);
     let float: [u8; 5] = judge::written(&MMeNc1 { value, ..Default::default() });
-    lines.push(line('F', &bits.to_be_bytes(), &float[..4]));
-}
-
-fn raised_i8(value: i8) -> u8 {
-    value.cast_unsigned() ^ 0x80
+    lines.push(line('B', &bits.to_be_bytes(), &float[..4]));
 }
 
 fn raised_i16(value: i16) -> [u8; 2] {

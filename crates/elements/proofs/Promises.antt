@@ -65,7 +65,8 @@ marks-back w v bl sb nt iv o h =
       bl-is = ap (λ (l : List ℕ). eqb (getD l 1 0) 1) e ∙ num-flag bl;
       sb-is = ap (λ (l : List ℕ). eqb (getD l 2 0) 1) e ∙ num-flag sb;
       nt-is = ap (λ (l : List ℕ). eqb (getD l 3 0) 1) e ∙ num-flag nt;
-      iv-is = ap (λ (l : List ℕ). eqb (getD l 4 0) 1) e ∙ num-flag iv }
+      iv-is = ap (λ (l : List ℕ). eqb (getD l 4 0) 1) e ∙ num-flag iv;
+    }
 
 -- ---- values of a small field
 
@@ -113,7 +114,8 @@ written of octetOf bits back again =
     record {
       bits = bits;
       back = λ v b e. let q : octetOf v ≡ b = cc in ap of (sym q) ∙ back v;
-      again = λ b h. ap Octet (again b) }
+      again = λ b h. ap Octet (again b);
+    }
 
 pub qds-back : (q : Qds) → qdsOf (qdsOctet q) ≡ q
 qds-back q =
@@ -142,12 +144,13 @@ diq-again b = rw (dpi-again (field 0 2 b) (field-small 2 b), flag-num 4 b, flag-
 pub seqQd-back : (q : SeqQd) → q .seq ≤ 31 → seqQdOf (seqQdOctet q) ≡ q
 seqQd-back q h =
     let e = fields-octet 8 seqQdLayout (q .seq ∷ num (q .cy) ∷ num (q .ca) ∷ num (q .iv) ∷ []) tt
-      (omega arith, (num-fits (q .cy), (num-fits (q .ca), (num-fits (q .iv), tt)))) in
+    (omega arith, (num-fits (q .cy), (num-fits (q .ca), (num-fits (q .iv), tt)))) in
     λ i. record {
       iv = (ap (λ (l : List ℕ). eqb (getD l 3 0) 1) e ∙ num-flag (q .iv)) i;
       ca = (ap (λ (l : List ℕ). eqb (getD l 2 0) 1) e ∙ num-flag (q .ca)) i;
       cy = (ap (λ (l : List ℕ). eqb (getD l 1 0) 1) e ∙ num-flag (q .cy)) i;
-      seq = ap (λ (l : List ℕ). getD l 0 0) e i }
+      seq = ap (λ (l : List ℕ). getD l 0 0) e i;
+    }
 
 pub seqQd-again : (b : ℕ) → seqQdOctet (seqQdOf b) ≡ kept seqQdLayout b
 seqQd-again b = rw (flag-num 5 b, flag-num 6 b, flag-num 7 b)
@@ -162,9 +165,10 @@ counter =
     record {
       bits = bitwise seqQdLayout 255 tt refl;
       back = λ q b e.
-        let a = accepted (ltb 31 (q .seq)) (refusal valueOutOfRange) (seqQdOctet q) b e in
-        ap seqQdOf (sym (a .1)) ∙ seqQd-back q (ltb-false 31 (q .seq) (a .0));
-      again = λ b h. let s = field-small 5 b in rw (le-ltb 31 (field 0 5 b) (omega arith)) (ap Octet (seqQd-again b)) }
+          let a = accepted (ltb 31 (q .seq)) (refusal valueOutOfRange) (seqQdOctet q) b e in
+          ap seqQdOf (sym (a .1)) ∙ seqQd-back q (ltb-false 31 (q .seq) (a .0));
+      again = λ b h. let s = field-small 5 b in rw (le-ltb 31 (field 0 5 b) (omega arith)) (ap Octet (seqQd-again b));
+    }
 
 coi-other : (n : ℕ) → 3 ≤ n → coiOf n ≡ Coi.Other n
 coi-other n h =
@@ -188,7 +192,7 @@ coi-again (suc (suc (suc n))) = rw (coi-other (suc (suc (suc n))) (omega arith),
 vti-first : (v : Vti) → mag (v .value) < 64 → (field 0 7 (vtiOctet v) ≡ bitsOf 7 (v .value)) × (flag 7 (vtiOctet v) ≡ v .transient)
 vti-first v h =
     let e = fields-octet 8 vtiLayout (bitsOf 7 (v .value) ∷ num (v .transient) ∷ []) tt
-      (numbers.bits-fit 7 (omega arith) (v .value) h, (num-fits (v .transient), tt)) in
+    (numbers.bits-fit 7 (omega arith) (v .value) h, (num-fits (v .transient), tt)) in
     (ap (λ (l : List ℕ). getD l 0 0) e, ap (λ (l : List ℕ). eqb (getD l 1 0) 1) e ∙ num-flag (v .transient))
 
 vti-back : (v : Vti) → mag (v .value) < 64 → vtiOf (vtiOctet v) (qdsOctet (v .qds)) ≡ v
@@ -206,14 +210,15 @@ step =
     record {
       step = bitwise vtiLayout 255 tt refl;
       back = λ v a b e.
-        let k = vti-accepted (ltb (mag (v .value)) 64) (refusal valueOutOfRange) (vtiOctet v) (qdsOctet (v .qds)) a b e in
-        (λ i. vtiOf (sym (k .1) i) (sym (k .2) i)) ∙ vti-back v (ltb-true (mag (v .value)) 64 (k .0));
+          let k = vti-accepted (ltb (mag (v .value)) 64) (refusal valueOutOfRange) (vtiOctet v) (qdsOctet (v .qds)) a b e in
+          (λ i. vtiOf (sym (k .1) i) (sym (k .2) i)) ∙ vti-back v (ltb-true (mag (v .value)) 64 (k .0));
       again = λ a b h g.
-        let s = field-small 7 a in
-        let z = signedOf 7 (field 0 7 a) in
-        let small : mag z < 64 = numbers.signed-fits 7 (omega arith) (field 0 7 a) s in
-        rw (lt-ltb (mag z) 64 small, numbers.signed-writes-again 7 (omega arith) (field 0 7 a) s, flag-num 7 a)
-        (ap (Pair.Octets (kept vtiLayout a)) (qds-again b)) }
+          let s = field-small 7 a in
+          let z = signedOf 7 (field 0 7 a) in
+          let small : mag z < 64 = numbers.signed-fits 7 (omega arith) (field 0 7 a) s in
+          rw (lt-ltb (mag z) 64 small, numbers.signed-writes-again 7 (omega arith) (field 0 7 a) s, flag-num 7 a)
+          (ap (Pair.Octets (kept vtiLayout a)) (qds-again b));
+    }
 
 -- ---- signed numbers of n octets
 
@@ -228,11 +233,12 @@ signed-octets n some =
     let wide : 1 ≤ 8 * n = omega arith in
     record {
       back = λ z rest h.
-        let fits : bitsOf (8 * n) z < 256 ^ n = rw (power n) (numbers.bits-fit (8 * n) wide z h) in
-        ap (signedOf (8 * n)) (numbers.reads-back n (bitsOf (8 * n) z) rest fits) ∙ numbers.signed-reads-back (8 * n) wide z h;
+          let fits : bitsOf (8 * n) z < 256 ^ n = rw (power n) (numbers.bits-fit (8 * n) wide z h) in
+          ap (signedOf (8 * n)) (numbers.reads-back n (bitsOf (8 * n) z) rest fits) ∙ numbers.signed-reads-back (8 * n) wide z h;
       again = λ s o h.
-        let fits : leOf n s < 2 ^ (8 * n) = rw (power n) at (numbers.le-fits n s o) in
-        ap (leOctets n) (numbers.signed-writes-again (8 * n) wide (leOf n s) fits) ∙ numbers.writes-again n s o h }
+          let fits : leOf n s < 2 ^ (8 * n) = rw (power n) at (numbers.le-fits n s o) in
+          ap (leOctets n) (numbers.signed-writes-again (8 * n) wide (leOf n s) fits) ∙ numbers.writes-again n s o h;
+    }
 
 pub octet-level : OctetLevel
 octet-level =
@@ -244,7 +250,9 @@ octet-level =
       coi = record {
         bits = bitwise whole 255 tt refl;
         back = coi-back;
-        again = λ b h. coi-again b ∙ ap Octet (sym (kept-whole b whole (tt, tt) h)) };
+        again = λ b h. coi-again b ∙ ap Octet (sym (kept-whole b whole (tt, tt) h));
+      };
       vti = step;
       i16 = signed-octets 2 (omega arith);
-      i32 = signed-octets 4 (omega arith) }
+      i32 = signed-octets 4 (omega arith);
+    }

@@ -1,11 +1,37 @@
 -- The numbers of refusal, by the rows of document 01's table. 0 is no refusal.
 use Prim.Native.Nat.{ℕ}
 use Rattle.elements.specs.declared.refusals.Refusal.{Refusal}
+use Rattle.elements.specs.declared.refusals.OctetAnswer.{OctetAnswer}
+use Rattle.elements.specs.declared.refusals.OctetAnswer.the-variants as OctetAnswer
+use Rattle.elements.specs.declared.refusals.PairAnswer.{PairAnswer}
+use Rattle.elements.specs.declared.refusals.PairAnswer.the-variants as PairAnswer
 
 -- the code's refusal with this number
 abbrev pub refusal : ℕ → Refusal
 refusal n = record { 0 = n }
 
+-- an answer's number, 0 where the octets were written, and its octets, 0 where they were refused
+abbrev pub octetNumber : OctetAnswer → ℕ
+octetNumber (OctetAnswer.Octet b) = 0
+octetNumber (OctetAnswer.Refused r) = r .0
+
+abbrev pub octetIn : OctetAnswer → ℕ
+octetIn (OctetAnswer.Octet b) = b
+octetIn (OctetAnswer.Refused r) = 0
+
+abbrev pub pairNumber : PairAnswer → ℕ
+pairNumber (PairAnswer.Octets a b) = 0
+pairNumber (PairAnswer.Refused r) = r .0
+
+abbrev pub pairFirst : PairAnswer → ℕ
+pairFirst (PairAnswer.Octets a b) = a
+pairFirst (PairAnswer.Refused r) = 0
+
+abbrev pub pairSecond : PairAnswer → ℕ
+pairSecond (PairAnswer.Octets a b) = b
+pairSecond (PairAnswer.Refused r) = 0
+
+-- the rows
 abbrev pub frameTooShort : ℕ
 frameTooShort = 1
 

@@ -4,7 +4,6 @@ ghost use Prim.Native.Nat.{_≤_};
 ghost use Rattle.elements.specs.Points.{spiOf, spiBits, siqOf, siqOctet, dpiOf, dpiBits, diqOf, diqOctet};
 ghost use Rattle.elements.specs.Steps.{stepOf, vtiOf, vtiAnswer};
 ghost use Rattle.elements.specs.Causes.{coiOf, coiAnswer};
-
 use crate::numbers;
 use crate::quality_descriptors::Qds;
 use crate::refusals::OctetAnswer;
@@ -62,7 +61,11 @@ impl Siq {
         ensures { λ r. ⌜ r ≡ siqOctet self ⌝ }
     {
         let spi = self.spi;
-        spi.to_byte() + laws::bit(self.bl) * 16 + laws::bit(self.sb) * 32 + laws::bit(self.nt) * 64 + laws::bit(self.iv) * 128
+        spi.to_byte()
+            + laws::bit(self.bl) * 16
+            + laws::bit(self.sb) * 32
+            + laws::bit(self.nt) * 64
+            + laws::bit(self.iv) * 128
     }
 }
 
@@ -123,7 +126,11 @@ impl Diq {
         ensures { λ r. ⌜ r ≡ diqOctet self ⌝ }
     {
         let dpi = self.dpi;
-        dpi.to_byte() + laws::bit(self.bl) * 16 + laws::bit(self.sb) * 32 + laws::bit(self.nt) * 64 + laws::bit(self.iv) * 128
+        dpi.to_byte()
+            + laws::bit(self.bl) * 16
+            + laws::bit(self.sb) * 32
+            + laws::bit(self.nt) * 64
+            + laws::bit(self.iv) * 128
     }
 }
 

@@ -1,7 +1,7 @@
 // Octets to fields and back: the elements of IEC 60870-5-101 that the carried types have.
 // A bit string and an f32's bits are numbers of four octets as `laws` reads and writes them, and so are
 // the commands 100 and 101 a bare octet; what has fields or a sign stands here.
-pub mod refusals;
+pub mod information_elements;
 pub mod numbers;
 pub mod quality_descriptors;
-pub mod information_elements;
+pub mod refusals;

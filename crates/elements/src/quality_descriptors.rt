@@ -1,7 +1,6 @@
 // IEC 60870-5-101: quality descriptor QDS, and the octet that follows a binary counter reading.
 ghost use mathlib.Core.Path.{_≡_};
 ghost use Rattle.elements.specs.Quality.{qdsOf, qdsOctet, seqQdOf, seqQdAnswer};
-
 use crate::refusals::OctetAnswer;
 use crate::refusals::Refusal;
 
@@ -29,7 +28,11 @@ impl Qds {
     pub fn to_byte(self) -> u8
         ensures { λ r. ⌜ r ≡ qdsOctet self ⌝ }
     {
-        laws::bit(self.ov) + laws::bit(self.bl) * 16 + laws::bit(self.sb) * 32 + laws::bit(self.nt) * 64 + laws::bit(self.iv) * 128
+        laws::bit(self.ov)
+            + laws::bit(self.bl) * 16
+            + laws::bit(self.sb) * 32
+            + laws::bit(self.nt) * 64
+            + laws::bit(self.iv) * 128
     }
 }
 
@@ -58,6 +61,8 @@ impl SeqQd {
         if 31 < self.seq {
             return OctetAnswer::Refused(Refusal::VALUE_OUT_OF_RANGE);
         }
-        OctetAnswer::Octet(self.seq + laws::bit(self.cy) * 32 + laws::bit(self.ca) * 64 + laws::bit(self.iv) * 128)
+        OctetAnswer::Octet(
+            self.seq + laws::bit(self.cy) * 32 + laws::bit(self.ca) * 64 + laws::bit(self.iv) * 128,
+        )
     }
 }

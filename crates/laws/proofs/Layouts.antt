@@ -61,11 +61,12 @@ raised lo hi (f ∷ l) [] o = (0, sym (zero-mul (2 ^ lo)))
 raised lo hi (f ∷ l) (v ∷ vs) o =
     let (m, e) = raised (f .pos + f .wide) hi l vs (rest-apart lo hi f l o) in
     let h = begins lo hi f l o in
-    let a : f .pos ≡ (f .pos - lo) + lo = omega arith in
-    (v * 2 ^ (f .pos - lo) + m * 2 ^ (f .wide + (f .pos - lo)),
-    ap (λ (y : ℕ). v * 2 ^ (f .pos) + y) e
-    ∙ ap (λ (q : ℕ). v * 2 ^ q + m * 2 ^ (q + f .wide)) a
-    ∙ raise v m (f .pos - lo) (f .wide) lo)
+    let a : f .pos ≡ (f .pos - lo) + lo = omega arith in (
+      v * 2 ^ (f .pos - lo) + m * 2 ^ (f .wide + (f .pos - lo)),
+      ap (λ (y : ℕ). v * 2 ^ (f .pos) + y) e
+          ∙ ap (λ (q : ℕ). v * 2 ^ q + m * 2 ^ (q + f .wide)) a
+          ∙ raise v m (f .pos - lo) (f .wide) lo,
+    )
 
 fields-above : (lo hi x : ℕ) (l : Layout) (vs : List ℕ) → T (apart lo l hi) → Fitting l vs → x < 2 ^ lo → fields l (x + octet l vs) ≡ vs
 fields-above lo hi x [] [] o g h = refl
@@ -79,7 +80,7 @@ fields-above lo hi x (f ∷ l) (v ∷ vs) o g h =
     let h′ : x < 2 ^ p = lt-of-lt-of-le h (pow-mono (begins lo hi f l o)) in
     let first : field p w (x + (v * 2 ^ p + octet l vs)) ≡ v = ap (λ (y : ℕ). field p w (x + (v * 2 ^ p + y))) e ∙ lowest x v m p w h′ (g .0) in
     let rest : fields l (x + (v * 2 ^ p + octet l vs)) ≡ vs =
-      ap (fields l) (sym (add-assoc x (v * 2 ^ p) (octet l vs))) ∙ fields-above (p + w) hi (x + v * 2 ^ p) l vs o′ (g .1) (below x v p w h′ (g .0)) in
+    ap (fields l) (sym (add-assoc x (v * 2 ^ p) (octet l vs))) ∙ fields-above (p + w) hi (x + v * 2 ^ p) l vs o′ (g .1) (below x v p w h′ (g .0)) in
     λ i. first i ∷ rest i
 
 pub fields-octet : ReadsBack
@@ -104,9 +105,9 @@ bit-under x m q i h =
     let k = m * 2 ^ (q - suc i) in
     let a : q ≡ (q - suc i) + suc i = omega arith in
     let b : m * 2 ^ q ≡ k * 2 * 2 ^ i =
-      ap (λ (n : ℕ). m * 2 ^ n) a
-      ∙ (ap (λ (y : ℕ). m * y) (pow-add 2 (q - suc i) (suc i))
-      ∙ (sym (mul-assoc m (2 ^ (q - suc i)) (2 ^ suc i)) ∙ (ap (λ (y : ℕ). k * y) (pow-suc 2 i ∙ mul-comm (2 ^ i) 2) ∙ sym (mul-assoc k 2 (2 ^ i))))) in
+    ap (λ (n : ℕ). m * 2 ^ n) a
+    ∙ (ap (λ (y : ℕ). m * y) (pow-add 2 (q - suc i) (suc i))
+    ∙ (sym (mul-assoc m (2 ^ (q - suc i)) (2 ^ suc i)) ∙ (ap (λ (y : ℕ). k * y) (pow-suc 2 i ∙ mul-comm (2 ^ i) 2) ∙ sym (mul-assoc k 2 (2 ^ i))))) in
     let c : (x + k * 2 * 2 ^ i) / 2 ^ i ≡ x / 2 ^ i + k * 2 = add-mul-div-right x (k * 2) (pow-pos i) in
     bit-is i (x + m * 2 ^ q)
     ∙ (ap (λ (y : ℕ). (x + y) / 2 ^ i % 2) b ∙ (ap (λ (y : ℕ). y % 2) c ∙ (omega arith ∙ sym (bit-is i x))))
@@ -115,8 +116,8 @@ bit-above : (x m q i : ℕ) → x < 2 ^ q → q ≤ i → field i 1 (x + m * 2 ^
 bit-above x m q i h g =
     let a : i ≡ q + (i - q) = omega arith in
     let up : (y : ℕ) → y < 2 ^ q → field i 1 (m * 2 ^ q + y) ≡ m / 2 ^ (i - q) % 2 =
-      λ y s. bit-is i (m * 2 ^ q + y) ∙ (ap (λ (n : ℕ). (m * 2 ^ q + y) / 2 ^ n % 2) a
-      ∙ (ap (λ (n : ℕ). n % 2) (sym (shr-shr (m * 2 ^ q + y) q (i - q))) ∙ ap (λ (n : ℕ). n / 2 ^ (i - q) % 2) (high m q s))) in
+    λ y s. bit-is i (m * 2 ^ q + y) ∙ (ap (λ (n : ℕ). (m * 2 ^ q + y) / 2 ^ n % 2) a
+    ∙ (ap (λ (n : ℕ). n % 2) (sym (shr-shr (m * 2 ^ q + y) q (i - q))) ∙ ap (λ (n : ℕ). n / 2 ^ (i - q) % 2) (high m q s))) in
     ap (field i 1) (omega arith) ∙ (up x h ∙ sym (ap (field i 1) (omega arith) ∙ up 0 (pow-pos q)))
 
 bit-zero : (i : ℕ) → field i 1 0 ≡ 0
@@ -157,16 +158,18 @@ kept-bits lo hi (f ∷ l) b i o =
     let small : v * 2 ^ p < 2 ^ (p + w) = omega (arith, below 0 v p w (pow-pos p) fits) in
     let joined : field i 1 (v * 2 ^ p + kept l b) ≡ field i 1 (v * 2 ^ p + m * 2 ^ (p + w)) = ap (λ (y : ℕ). field i 1 (v * 2 ^ p + y)) e in
     elim (decLt i p) [
-      yes u ↦
-        rw (lt-leb p i u, keeps-none (p + w) hi i l o′ (omega arith))
-        (joined ∙ (bit-under (v * 2 ^ p) m (p + w) i (omega arith) ∙ (ap (field i 1) (sym (zero-add (v * 2 ^ p))) ∙ (bit-under 0 v p i u ∙ bit-zero i))))
+      | yes u ↦
+          rw (lt-leb p i u, keeps-none (p + w) hi i l o′ (omega arith))
+          (joined ∙ (bit-under (v * 2 ^ p) m (p + w) i (omega arith) ∙ (ap (field i 1) (sym (zero-add (v * 2 ^ p))) ∙ (bit-under 0 v p i u ∙ bit-zero i))))
       | no u ↦ elim (decLt i (p + w)) [
-        yes t ↦
-          rw (le-leb p i (omega arith), lt-ltb i (p + w) t)
-          (joined ∙ (bit-under (v * 2 ^ p) m (p + w) i t ∙ bit-within b p w i (omega arith) t))
+        | yes t ↦
+            rw (le-leb p i (omega arith), lt-ltb i (p + w) t)
+            (joined ∙ (bit-under (v * 2 ^ p) m (p + w) i t ∙ bit-within b p w i (omega arith) t))
         | no t ↦
-          rw (le-leb p i (omega arith), le-ltb i (p + w) (omega arith))
-          (joined ∙ (bit-above (v * 2 ^ p) m (p + w) i small (omega arith) ∙ (ap (field i 1) (sym e) ∙ kept-bits (p + w) hi l b i o′))) ] ]
+            rw (le-leb p i (omega arith), le-ltb i (p + w) (omega arith))
+            (joined ∙ (bit-above (v * 2 ^ p) m (p + w) i small (omega arith) ∙ (ap (field i 1) (sym e) ∙ kept-bits (p + w) hi l b i o′)))
+      ]
+    ]
 
 pub writes-again : WritesAgain
 writes-again hi l b i o = kept-bits 0 hi l b i o
@@ -209,6 +212,7 @@ reserves hi l b i o =
     at-most : (t : Bool) (x : ℕ) {y z : ℕ} → y ≡ x → z ≡ pick t x 0 → z ≤ y
     at-most true x p q = omega arith
     at-most false x p q = omega arith
+
     rest : (t : Bool) (x : ℕ) → x - pick t x 0 ≡ pick t 0 x
     rest true x = omega arith
     rest false x = omega arith
@@ -242,12 +246,13 @@ kept-above : (lo hi b : ℕ) (l : Layout) → Covers lo l hi → b % 2 ^ lo + ke
 kept-above lo hi b [] c = omega (arith, ap (λ (n : ℕ). b % 2 ^ n) (eqb→eq lo hi c))
 kept-above lo hi b (f ∷ l) c =
     let e = eqb→eq lo (f .pos) (c .0) in
-    omega
-    (arith,
-    ap (λ (n : ℕ). b % 2 ^ n) e,
-    ap (λ (n : ℕ). n * 2 ^ f .pos) (field-is (f .pos) (f .wide) b),
-    mod-pow-add b (f .wide) (f .pos),
-    kept-above (f .wide + f .pos) hi b l (c .1))
+    omega (
+      arith,
+      ap (λ (n : ℕ). b % 2 ^ n) e,
+      ap (λ (n : ℕ). n * 2 ^ f .pos) (field-is (f .pos) (f .wide) b),
+      mod-pow-add b (f .wide) (f .pos),
+      kept-above (f .wide + f .pos) hi b l (c .1),
+    )
 
 -- a layout that covers an octet keeps it as it is
 pub kept-whole : (b : ℕ) (l : Layout) → Covers 0 l 8 → b < 256 → kept l b ≡ b

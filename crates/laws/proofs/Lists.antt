@@ -9,12 +9,16 @@ use native.Mathlib.Numerals.{add-one}
 use native.Mathlib.Nat.{zero-add, add-zero, add-suc, add-assoc, add-sub-of-le, mod-add-mod, mod-lt, mod-eq-of-lt, mod-eq-sub-mod}
 use native.Mathlib.Decide.{decLt}
 use lib.ListN.{length, set, take, drop, getD, length-append, length-take, length-drop, length-set, List·getD-append}
-use lib.Seq.{sets, sets-eq, length-sets, set-out, drop-drop, take-at, drop-at, getD-at, getD-take, getD-drop, getD-append-add, ext-getD}
+use lib.Seq.{take-length, sets, sets-eq, length-sets, set-out, drop-drop, take-at, drop-at, getD-at, getD-take, getD-drop, getD-append-add, ext-getD}
 use Rattle.laws.specs.Lists.{put, tabulate, ring, padded}
 
 -- ---- storing values in a row
 
 module _ {A : Type 0} where
+  -- a part that reaches to the end
+  pub to-the-end : (l : List A) (at : ℕ) → take (length l - at) (drop at l) ≡ drop at l
+  to-the-end l at = rw (sym (length-drop at l)) (take-length (drop at l))
+
   pub sets-past : (l : List A) (i : ℕ) (vs : List A) → length l ≤ i → sets l i vs ≡ l
   sets-past l i [] h = refl
   sets-past l i (v ∷ vs) h = rw (set-out l i v h) (sets-past l (suc i) vs (omega arith))
@@ -121,8 +125,8 @@ module _ {A : Type 0} where
   tabulate-shift f i n =
       ext-getD (f i) _ _ (length-tabulate f i n ∙ sym (length-tabulate _ 0 n))
       (λ j q.
-        let l : j < n = (let q2 = rw (length-tabulate f i n) at q in q2) in
-        getD-tabulate f i n j (f i) l ∙ sym (getD-tabulate (λ (j : ℕ). f (i + j)) 0 n j (f i) l ∙ ap (λ (k : ℕ). f (i + k)) (zero-add j)))
+      let l : j < n = (let q2 = rw (length-tabulate f i n) at q in q2) in
+      getD-tabulate f i n j (f i) l ∙ sym (getD-tabulate (λ (j : ℕ). f (i + j)) 0 n j (f i) l ∙ ap (λ (k : ℕ). f (i + k)) (zero-add j)))
 
 -- ---- rings
 
@@ -138,10 +142,11 @@ mod-apart p i j m hi hj e =
     let xs : x < m = mod-lt (p + i) (omega arith) in
     let back : (x + d) % m ≡ x = mod-add p i d m ∙ (ap (λ (k : ℕ). (p + k) % m) (omega arith) ∙ sym e) in
     elim (decLt (x + d) m) [
-      yes l ↦ let z : x + d ≡ x = sym (mod-eq-of-lt l) ∙ back in omega arith
+      | yes l ↦ let z : x + d ≡ x = sym (mod-eq-of-lt l) ∙ back in omega arith
       | no l ↦
-        let z : x + d - m ≡ x = sym (mod-eq-of-lt (omega arith)) ∙ (sym (mod-eq-sub-mod (omega arith)) ∙ back) in
-        omega arith ]
+          let z : x + d - m ≡ x = sym (mod-eq-of-lt (omega arith)) ∙ (sym (mod-eq-sub-mod (omega arith)) ∙ back) in
+          omega arith
+    ]
 
 module _ {A : Type 0} where
   pub ring-ext : (f g : ℕ → A) (m p n : ℕ) → ((i : ℕ) → i < n → f ((p + i) % m) ≡ g ((p + i) % m)) → ring f m p n ≡ ring g m p n
@@ -169,4 +174,4 @@ module _ {A : Type 0} where
       tabulate-snoc (λ (i : ℕ). g ((p + i) % m)) 0 n
       ∙ (ap (λ (k : ℕ). tabulate (λ (i : ℕ). g ((p + i) % m)) 0 n ++ (g ((p + k) % m) ∷ [])) (zero-add n)
       ∙ ap (λ (l : List A). l ++ (g ((p + n) % m) ∷ []))
-        (tabulate-ext _ _ 0 n (λ i a b. same ((p + i) % m) (mod-apart p i n m (omega arith) h))))
+      (tabulate-ext _ _ 0 n (λ i a b. same ((p + i) % m) (mod-apart p i n m (omega arith) h))))

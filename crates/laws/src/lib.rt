@@ -36,6 +36,16 @@ pub fn octet_at(s: &[u8], at: usize) -> u8
     0
 }
 
+// The part from a place on, empty past the end.
+pub fn part_from(s: &[u8], at: usize) -> &[u8]
+    ensures { λ r. ⌜ now r ≡ drop at (now (s .entry)) ⌝ }
+{
+    if at <= s.len() {
+        return &s[at..];
+    }
+    &s[s.len()..]
+}
+
 pub fn le2(s: &[u8], at: usize) -> u16
     ensures { λ r. ⌜ r ≡ leOf 2 (drop at (now (s .entry))) ⌝ }
 {

@@ -27,7 +27,8 @@ use crate::{
     error::Error,
     errors,
     receive_handler::{
-        ReceiveHandler, ReceiveHandlerCallback, ReceiveHandlerCommand as Command, SendAsduCommandAck,
+        ReceiveHandler, ReceiveHandlerCallback, ReceiveHandlerCommand as Command,
+        SendAsduCommandAck,
     },
 };
 
@@ -118,7 +119,8 @@ impl Link {
             state: RefCell::new(State::Open),
         });
         let tasks = LocalSet::new();
-        let handler = handle(seen.clone(), config.clone(), (sent, received), ours, received_commands);
+        let handler =
+            handle(seen.clone(), config.clone(), (sent, received), ours, received_commands);
         tasks.spawn_local(watch(seen.clone(), handler));
         tasks.spawn_local(collect(seen.clone(), from_handler));
         tasks.block_on(&runtime, settle());

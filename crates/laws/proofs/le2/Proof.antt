@@ -32,7 +32,7 @@ cast-result : tie.Need-cast-result
 cast-result c = search needs
 
 returns : tie.Need-returns
-returns c = 
+returns c =
     let a = c .before .before .before .before .before .before .args in
     le-more 1 (a .s .now) (a .at) (c .before .before .wide .ensures .0)
     (c .wide2 .ensures .0 ∙ (c .before .octet-at .ensures ∙ sym (le-one (a .s .now) (a .at + 1))))
