@@ -2,7 +2,7 @@
 //! Rust does not check the case, or tells it otherwise (25 is an answer to the sender, 20 an ended task).
 
 /// The innermost variants of an error as `errors::path` names them, or how its message begins.
-const NUMBERS: [(&str, u8); 25] = [
+const NUMBERS: [(&str, u8); 24] = [
     ("ApduTooShort", 1),
     ("InvalidTelegramHeader", 2),
     ("\"Invalid header", 2),
@@ -28,7 +28,6 @@ const NUMBERS: [(&str, u8); 25] = [
     ("\"t1 for u frames timeout", 30),
     ("\"t1 for i frames timeout", 31),
     ("\"Outstanding test frame confirmation messages", 32),
-    ("\"Error getting length", 1),
 ];
 
 /// The number for an error of reading, or of the link.

@@ -17,13 +17,12 @@ use Rattle.laws.specs.Numbers.{leOf, leOctets, signedOf, bitsOf}
 use Rattle.laws.proofs.Layouts.{fields-octet, fields-fit, writes-again, reserves, flag-num, num-flag, num-fits, kept-whole}
 use Rattle.laws.proofs.Numbers as numbers
 use Rattle.laws.specs.Choice.{pick}
-use Rattle.elements.specs.Refusals.{refusal, valueOutOfRange}
-use Rattle.elements.specs.declared.refusals.Refusal.{Refusal}
+use Rattle.elements.specs.Refusals.{refusal, valueOutOfRange, octetNumber, octetIn, pairNumber, pairFirst, pairSecond}
 use Rattle.elements.specs.Quality.{qdsLayout, qdsOf, qdsOctet, seqQdLayout, seqQdOf, seqQdOctet, seqQdAnswer}
 use Rattle.elements.specs.Points.{siqLayout, siqOf, siqOctet, spiOf, spiBits, diqLayout, diqOf, diqOctet, dpiOf, dpiBits}
 use Rattle.elements.specs.Steps.{vtiLayout, vtiOf, vtiOctet, vtiAnswer}
 use Rattle.elements.specs.Causes.{coiOf, coiAnswer}
-use Rattle.elements.specs.Promises.{Bitwise, Octetwise, StepPair, SignedOctets, OctetLevel}
+use Rattle.elements.specs.Promises.{Bitwise, Octetwise, StepPair, WrittenPair, SignedOctets, PlainOctets, OctetLevel}
 use Rattle.elements.specs.declared.refusals.OctetAnswer.{OctetAnswer}
 use Rattle.elements.specs.declared.refusals.OctetAnswer.the-variants.{Octet, Refused}
 use Rattle.elements.specs.declared.refusals.PairAnswer.the-variants as Pair
@@ -107,15 +106,13 @@ dpi-again (suc (suc (suc (suc n)))) h = absurd (omega arith)
 
 -- ---- each octet
 
--- an octet that is always written: what it is read as
-written : {R : Type 0} {l : Layout} {mask : ℕ} (of : ℕ → R) (octetOf : R → ℕ) → Bitwise l mask
-    → ((v : R) → of (octetOf v) ≡ v) → ((b : ℕ) → octetOf (of b) ≡ kept l b) → Octetwise l mask of (λ v. Octet (octetOf v))
-written of octetOf bits back again =
-    record {
-      bits = bits;
-      back = λ v b e. let q : octetOf v ≡ b = cc in ap of (sym q) ∙ back v;
-      again = λ b h. ap Octet (again b);
-    }
+-- an octet that is always written
+written : {R : Type 0} {l : Layout} {mask : ℕ} (of : ℕ → R) (octetOf : R → ℕ)
+    → Bitwise l mask
+    → ((v : R) → of (octetOf v) ≡ v)
+    → ((b : ℕ) → octetOf (of b) ≡ kept l b)
+    → Octetwise l mask of (λ v. Octet (octetOf v))
+written of octetOf bits back again = record { bits = bits; back = λ v e. back v; again = λ b h. (refl, again b) }
 
 pub qds-back : (q : Qds) → qdsOf (qdsOctet q) ≡ q
 qds-back q =
@@ -155,38 +152,40 @@ seqQd-back q h =
 pub seqQd-again : (b : ℕ) → seqQdOctet (seqQdOf b) ≡ kept seqQdLayout b
 seqQd-again b = rw (flag-num 5 b, flag-num 6 b, flag-num 7 b)
 
--- what a writer that may refuse has accepted
-accepted : (t : Bool) (r : Refusal) (x b : ℕ) → pick t (Refused r) (Octet x) ≡ Octet b → (t ≡ false) × (x ≡ b)
-accepted true r x b e = let z : _≡_ {A = ℕ} 0 1 = cc in absurd (omega arith)
-accepted false r x b e = (refl, cc)
+-- what a writer that may refuse with 15 has accepted, and what it has written
+abbrev answered : Bool → ℕ → OctetAnswer
+answered t x = pick t (Refused (refusal valueOutOfRange)) (Octet x)
+
+accepted : (t : Bool) (x : ℕ) → octetNumber (answered t x) ≡ 0 → (t ≡ false) × (octetIn (answered t x) ≡ x)
+accepted true x e = absurd (omega arith)
+accepted false x e = (refl, refl)
 
 counter : Octetwise seqQdLayout 255 seqQdOf seqQdAnswer
 counter =
     record {
       bits = bitwise seqQdLayout 255 tt refl;
-      back = λ q b e.
-          let a = accepted (ltb 31 (q .seq)) (refusal valueOutOfRange) (seqQdOctet q) b e in
-          ap seqQdOf (sym (a .1)) ∙ seqQd-back q (ltb-false 31 (q .seq) (a .0));
-      again = λ b h. let s = field-small 5 b in rw (le-ltb 31 (field 0 5 b) (omega arith)) (ap Octet (seqQd-again b));
+      back = λ q e.
+          let a = accepted (ltb 31 (q .seq)) (seqQdOctet q) e in
+          ap seqQdOf (a .1) ∙ seqQd-back q (ltb-false 31 (q .seq) (a .0));
+      again = λ b h. let s = field-small 5 b in rw (le-ltb 31 (field 0 5 b) (omega arith)) (refl, seqQd-again b);
     }
 
 coi-other : (n : ℕ) → 3 ≤ n → coiOf n ≡ Coi.Other n
 coi-other n h =
     rw (ne-eqb n 0 (λ e. omega arith), ne-eqb n 1 (λ e. omega arith), ne-eqb n 2 (λ e. omega arith))
 
-coi-back : (c : Coi) (b : ℕ) → coiAnswer c ≡ Octet b → coiOf b ≡ c
-coi-back Coi.LocalPowerOn b e = let q : b ≡ 0 = cc in ap coiOf q
-coi-back Coi.LocalManualReset b e = let q : b ≡ 1 = cc in ap coiOf q
-coi-back Coi.RemoteReset b e = let q : b ≡ 2 = cc in ap coiOf q
-coi-back (Coi.Other n) b e =
-    let a = accepted (ltb n 3) (refusal valueOutOfRange) n b e in
-    ap coiOf (sym (a .1)) ∙ coi-other n (ltb-false n 3 (a .0))
+coi-back : (c : Coi) → octetNumber (coiAnswer c) ≡ 0 → coiOf (octetIn (coiAnswer c)) ≡ c
+coi-back Coi.LocalPowerOn e = refl
+coi-back Coi.LocalManualReset e = refl
+coi-back Coi.RemoteReset e = refl
+coi-back (Coi.Other n) e = let a = accepted (ltb n 3) n e in ap coiOf (a .1) ∙ coi-other n (ltb-false n 3 (a .0))
 
-coi-again : (b : ℕ) → coiAnswer (coiOf b) ≡ Octet b
-coi-again zero = refl
-coi-again (suc zero) = refl
-coi-again (suc (suc zero)) = refl
-coi-again (suc (suc (suc n))) = rw (coi-other (suc (suc (suc n))) (omega arith), le-ltb (suc (suc (suc n))) 3 (omega arith))
+coi-again : (b : ℕ) → (octetNumber (coiAnswer (coiOf b)) ≡ 0) × (octetIn (coiAnswer (coiOf b)) ≡ b)
+coi-again zero = (refl, refl)
+coi-again (suc zero) = (refl, refl)
+coi-again (suc (suc zero)) = (refl, refl)
+coi-again (suc (suc (suc n))) =
+    rw (coi-other (suc (suc (suc n))) (omega arith), le-ltb (suc (suc (suc n))) 3 (omega arith)) (refl, refl)
 
 -- VTI: seven signed bits and a mark
 vti-first : (v : Vti) → mag (v .value) < 64 → (field 0 7 (vtiOctet v) ≡ bitsOf 7 (v .value)) × (flag 7 (vtiOctet v) ≡ v .transient)
@@ -201,23 +200,24 @@ vti-back v h =
     let value = ap (signedOf 7) (f .0) ∙ numbers.signed-reads-back 7 (omega arith) (v .value) h in
     λ i. record { value = value i; transient = f .1 i; qds = qds-back (v .qds) i }
 
-vti-accepted : (t : Bool) (r : Refusal) (x y a b : ℕ) → pick t (Pair.Octets x y) (Pair.Refused r) ≡ Pair.Octets a b → (t ≡ true) × (x ≡ a) × (y ≡ b)
-vti-accepted false r x y a b e = let z : _≡_ {A = ℕ} 0 1 = cc in absurd (omega arith)
-vti-accepted true r x y a b e = (refl, (cc), cc)
+pair-accepted : (t : Bool) (x y : ℕ) → let answer = pick t (Pair.Octets x y) (Pair.Refused (refusal valueOutOfRange)) in
+    pairNumber answer ≡ 0 → (t ≡ true) × (pairFirst answer ≡ x) × (pairSecond answer ≡ y)
+pair-accepted false x y e = absurd (omega arith)
+pair-accepted true x y e = (refl, refl, refl)
 
 step : StepPair
 step =
     record {
       step = bitwise vtiLayout 255 tt refl;
-      back = λ v a b e.
-          let k = vti-accepted (ltb (mag (v .value)) 64) (refusal valueOutOfRange) (vtiOctet v) (qdsOctet (v .qds)) a b e in
-          (λ i. vtiOf (sym (k .1) i) (sym (k .2) i)) ∙ vti-back v (ltb-true (mag (v .value)) 64 (k .0));
+      back = λ v e.
+          let k = pair-accepted (ltb (mag (v .value)) 64) (vtiOctet v) (qdsOctet (v .qds)) e in
+          (λ i. vtiOf (k .1 i) (k .2 i)) ∙ vti-back v (ltb-true (mag (v .value)) 64 (k .0));
       again = λ a b h g.
           let s = field-small 7 a in
           let z = signedOf 7 (field 0 7 a) in
           let small : mag z < 64 = numbers.signed-fits 7 (omega arith) (field 0 7 a) s in
           rw (lt-ltb (mag z) 64 small, numbers.signed-writes-again 7 (omega arith) (field 0 7 a) s, flag-num 7 a)
-          (ap (Pair.Octets (kept vtiLayout a)) (qds-again b));
+          (record { accepted = refl; first = refl; second = qds-again b });
     }
 
 -- ---- signed numbers of n octets
@@ -250,9 +250,11 @@ octet-level =
       coi = record {
         bits = bitwise whole 255 tt refl;
         back = coi-back;
-        again = λ b h. coi-again b ∙ ap Octet (sym (kept-whole b whole (tt, tt) h));
+        again = λ b h. let a = coi-again b in (a .0, a .1 ∙ sym (kept-whole b whole (tt, tt) h));
       };
       vti = step;
       i16 = signed-octets 2 (omega arith);
       i32 = signed-octets 4 (omega arith);
+      bits32 = record { back = numbers.reads-back 4; again = numbers.writes-again 4 };
+      command = record { back = numbers.reads-back 1; again = numbers.writes-again 1 };
     }

@@ -1,4 +1,5 @@
--- IEC 60870-5-101: cause of initialisation. The whole octet is the cause (document 01, type 70), so no bit is reserved.
+-- Cause of initialisation, type 70. Document 01 takes the whole octet as the cause, so no bit is reserved;
+-- IEC 60870-5-101 keeps bit 7 for a change of local parameters (docs/DIFFERENCES.md, D8).
 use Prim.Native.Nat.{ℕ}
 use lib.Dec.{eqb, ltb}
 use Rattle.laws.specs.Choice.{pick}

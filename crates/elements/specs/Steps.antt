@@ -26,6 +26,6 @@ vtiOf a b = record { value = stepOf a; transient = flag 7 a; qds = qdsOf b }
 abbrev pub vtiOctet : Vti → ℕ
 vtiOctet v = octet vtiLayout (bitsOf 7 (v .value) ∷ num (v .transient) ∷ [])
 
--- a value that seven bits cannot hold is refused; mag z is z from 0 on, and -z - 1 below
+-- a value outside -64 to 63 is refused: mag z, which is z from 0 on and -z - 1 below, is then 64 or more
 abbrev pub vtiAnswer : Vti → PairAnswer
 vtiAnswer v = pick (ltb (mag (v .value)) 64) (Octets (vtiOctet v) (qdsOctet (v .qds))) (Refused (refusal valueOutOfRange))

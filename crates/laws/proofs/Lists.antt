@@ -8,7 +8,7 @@ use native.Mathlib.Omega.{arith}
 use native.Mathlib.Numerals.{add-one}
 use native.Mathlib.Nat.{zero-add, add-zero, add-suc, add-assoc, add-sub-of-le, mod-add-mod, mod-lt, mod-eq-of-lt, mod-eq-sub-mod}
 use native.Mathlib.Decide.{decLt}
-use lib.ListN.{length, set, take, drop, getD, length-append, length-take, length-drop, length-set, List·getD-append}
+use lib.ListN.{replicate, length-replicate, length, set, take, drop, getD, length-append, length-take, length-drop, length-set, List·getD-append}
 use lib.Seq.{take-length, sets, sets-eq, length-sets, set-out, drop-drop, take-at, drop-at, getD-at, getD-take, getD-drop, getD-append-add, ext-getD}
 use Rattle.laws.specs.Lists.{put, tabulate, ring, padded}
 
@@ -127,6 +127,22 @@ module _ {A : Type 0} where
       (λ j q.
       let l : j < n = (let q2 = rw (length-tabulate f i n) at q in q2) in
       getD-tabulate f i n j (f i) l ∙ sym (getD-tabulate (λ (j : ℕ). f (i + j)) 0 n j (f i) l ∙ ap (λ (k : ℕ). f (i + k)) (zero-add j)))
+
+-- ---- padding
+
+module _ {A : Type 0} where
+  pub length-padded : (m : ℕ) (a : A) (l : List A) → length l ≤ m → length (padded m a l) ≡ m
+  unfolding padded
+  length-padded m a l h = simp (length-append, length-drop, length-replicate) (omega arith)
+
+  -- storing from the start of m copies is padding
+  pub sets-padded : (m : ℕ) (a : A) (l : List A) → length l ≤ m → sets (replicate m a) 0 l ≡ padded m a l
+  unfolding padded
+  sets-padded m a l h = sets-all (replicate m a) l (simp length-replicate h)
+
+  pub take-padded : (m : ℕ) (a : A) (l : List A) → take (length l) (padded m a l) ≡ l
+  unfolding padded
+  take-padded m a l = take-at l (drop (length l) (replicate m a)) (length l) refl
 
 -- ---- rings
 

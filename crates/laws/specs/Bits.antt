@@ -1,11 +1,11 @@
--- An octet by the standard's bit positions: bit 0 is the lowest.
+-- An octet by bit positions as document 01 numbers them: bit 0 is the lowest (the standard counts the same bits 1 to 8).
 -- A layout lists the fields that an octet keeps. Reading, writing and the reserved bits all follow from it.
 use Prim.Native.Nat.{ℕ, zero, suc, _+_, _*_, _/_, _%_, _^_, _-_}
 use mathlib.Core.Bool.{Bool, true, false, _&&_, _||_}
 use mathlib.Core.List.{List, [], _∷_}
 use lib.Dec.{eqb, leb, ltb}
 
--- the w bits of b from bit p on
+-- the w bits of b from bit p on; bit 0 has a clause of its own so that no division by 1 stands in a goal
 abbrev pub field : ℕ → ℕ → ℕ → ℕ
 field zero w b = b % 2 ^ w
 field (suc p) w b = b / 2 ^ suc p % 2 ^ w

@@ -10,7 +10,7 @@ abbrev pub Octets : List ℕ → Type 0
 Octets [] = Unit {0}
 Octets (b ∷ s) = (b < 256) × Octets s
 
--- d with s in the place of what stood from place `at` on: a part that was lent and wholly written
+-- d with s in the place of what stood from place `at` on: a part that was lent and wholly written (`at` is in d)
 unfoldable pub put {ℓ} : {A : Type ℓ} → List A → ℕ → List A → List A
 put d at s = take at d ++ (s ++ drop (length s) (drop at d))
 

@@ -162,7 +162,9 @@ async fn put_in(
             return None;
         }
         Event::End => {
-            *to_handler = None;
+            if let Some(mut to_handler) = to_handler.take() {
+                to_handler.shutdown().await.expect("a pipe that can be closed");
+            }
             return None;
         }
         Event::Advance(milliseconds) | Event::Skip(milliseconds) => {
