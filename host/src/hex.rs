@@ -1,5 +1,14 @@
 //! Octets as text.
-use std::fmt::Write as _;
+use std::fmt::{self, Write as _};
+
+/// Octets that are shown as one number.
+pub struct Hex<'a>(pub &'a [u8]);
+
+impl fmt::Debug for Hex<'_> {
+    fn fmt(&self, f: &mut fmt::Formatter) -> fmt::Result {
+        f.write_str(&from_octets(self.0))
+    }
+}
 
 pub fn from_octets(octets: &[u8]) -> String {
     octets.iter().fold(String::new(), |mut text, octet| {

@@ -34,24 +34,38 @@ pub fn write_qds(fields: [u8; 5]) -> u8 {
     qds_of(fields).to_byte()
 }
 
-pub fn read_siq(octet: u8) -> [u8; 5] {
-    let Siq { iv, nt, sb, bl, spi } = Siq::from_byte(octet);
-    [iv as u8, nt as u8, sb as u8, bl as u8, spi as u8]
+pub fn siq_fields(siq: &Siq) -> [u8; 5] {
+    [siq.iv as u8, siq.nt as u8, siq.sb as u8, siq.bl as u8, siq.spi as u8]
 }
 
-pub fn write_siq([iv, nt, sb, bl, spi]: [u8; 5]) -> u8 {
+pub fn siq_of([iv, nt, sb, bl, spi]: [u8; 5]) -> Siq {
     let [iv, nt, sb, bl] = [iv, nt, sb, bl].map(|mark| mark == 1);
-    Siq { iv, nt, sb, bl, spi: Spi::from_byte(spi) }.to_byte()
+    Siq { iv, nt, sb, bl, spi: Spi::from_byte(spi) }
+}
+
+pub fn read_siq(octet: u8) -> [u8; 5] {
+    siq_fields(&Siq::from_byte(octet))
+}
+
+pub fn write_siq(fields: [u8; 5]) -> u8 {
+    siq_of(fields).to_byte()
+}
+
+pub fn diq_fields(diq: &Diq) -> [u8; 5] {
+    [diq.iv as u8, diq.nt as u8, diq.sb as u8, diq.bl as u8, diq.dpi as u8]
+}
+
+pub fn diq_of([iv, nt, sb, bl, dpi]: [u8; 5]) -> Diq {
+    let [iv, nt, sb, bl] = [iv, nt, sb, bl].map(|mark| mark == 1);
+    Diq { iv, nt, sb, bl, dpi: Dpi::from_byte(dpi) }
 }
 
 pub fn read_diq(octet: u8) -> [u8; 5] {
-    let Diq { iv, nt, sb, bl, dpi } = Diq::from_byte(octet);
-    [iv as u8, nt as u8, sb as u8, bl as u8, dpi as u8]
+    diq_fields(&Diq::from_byte(octet))
 }
 
-pub fn write_diq([iv, nt, sb, bl, dpi]: [u8; 5]) -> u8 {
-    let [iv, nt, sb, bl] = [iv, nt, sb, bl].map(|mark| mark == 1);
-    Diq { iv, nt, sb, bl, dpi: Dpi::from_byte(dpi) }.to_byte()
+pub fn write_diq(fields: [u8; 5]) -> u8 {
+    diq_of(fields).to_byte()
 }
 
 pub fn seq_qd_fields(sqd: &SeqQd) -> [u8; 4] {
@@ -71,7 +85,7 @@ pub fn write_seq_qd(fields: [u8; 4]) -> u8 {
     seq_qd_of(fields).to_byte()
 }
 
-fn coi_fields(coi: &Coi) -> [u8; 2] {
+pub fn coi_fields(coi: &Coi) -> [u8; 2] {
     let which = match coi {
         Coi::LocalPowerOn => 0,
         Coi::LocalManualReset => 1,
@@ -85,14 +99,17 @@ pub fn read_coi(octet: u8) -> [u8; 2] {
     coi_fields(&Coi::from_byte(octet))
 }
 
-pub fn write_coi([which, cause]: [u8; 2]) -> u8 {
+pub fn coi_of([which, cause]: [u8; 2]) -> Coi {
     match which {
         0 => Coi::LocalPowerOn,
         1 => Coi::LocalManualReset,
         2 => Coi::RemoteReset,
         _ => Coi::Other(cause),
     }
-    .to_byte()
+}
+
+pub fn write_coi(fields: [u8; 2]) -> u8 {
+    coi_of(fields).to_byte()
 }
 
 /// The element of type 70: its mark of a local change, and its cause.

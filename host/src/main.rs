@@ -1,22 +1,28 @@
 //! Holds the proved library to the Rust crate iec104 0.6.0; see README.md.
+mod asdu;
+mod entries;
 mod hex;
 mod judge;
 mod numbers;
 mod octets;
+mod panics;
 mod proved;
 mod random;
 mod refusals;
 mod report;
 mod rust;
 mod sample;
+mod show;
 
 use std::{env, process::ExitCode, time::Instant};
 
+use asdu::compare::{FULL, QUICK};
 use random::Random;
 use report::Report;
 
 const USAGE: &str = "grassglisten-host COMMAND
   compare [--quick | --full] [--seed N]   the proved library and the Rust on the same inputs; 1 where they differ
+  show ENTRY                              an entry of docs/DIFFERENCES.md: both sides on its smallest inputs
   sample                                  the Rust's answers that crates/replay replays, to standard output
   rust frame HEX | rust asdu HEX          what the Rust reads, and writes again
   rust link WORD..                        what the Rust's link does, event by event: settings k=N w=N p=N t1=MS
@@ -32,6 +38,7 @@ fn main() -> ExitCode {
     let words: Vec<&str> = words.iter().map(String::as_str).collect();
     let done = match words.as_slice() {
         ["compare", options @ ..] => compare(options),
+        ["show", entry] => show::show(entry),
         ["sample"] => Ok(sample::write()),
         ["rust", "frame", hex @ ..] => rust::frame(&hex.concat()),
         ["rust", "asdu", hex @ ..] => rust::asdu(&hex.concat()),
@@ -49,12 +56,12 @@ fn main() -> ExitCode {
 }
 
 fn compare(options: &[&str]) -> Result<bool, String> {
-    let (mut numbers, mut seed) = (QUICK_NUMBERS, SEED);
+    let (mut full, mut seed) = (false, SEED);
     let mut options = options.iter();
     while let Some(&option) = options.next() {
         match option {
-            "--quick" => numbers = QUICK_NUMBERS,
-            "--full" => numbers = FULL_NUMBERS,
+            "--quick" => full = false,
+            "--full" => full = true,
             "--seed" => {
                 let given = options.next().and_then(|word| word.parse().ok());
                 seed = given.ok_or("--seed N")?;
@@ -64,8 +71,10 @@ fn compare(options: &[&str]) -> Result<bool, String> {
     }
     let started = Instant::now();
     let (mut report, mut random) = (Report::default(), Random::from_seed(seed));
+    show::compare(&mut report);
     octets::compare(&mut report);
-    numbers::compare(&mut report, &mut random, numbers);
+    numbers::compare(&mut report, &mut random, if full { FULL_NUMBERS } else { QUICK_NUMBERS });
+    asdu::compare::compare(&mut report, &mut random, if full { &FULL } else { &QUICK });
     let same = report.close();
     println!("seed {seed}, {:.1} s", started.elapsed().as_secs_f64());
     Ok(same)

@@ -1,20 +1,15 @@
 //! Octets of marks and small fields, read and written by both sides on all their values.
 use crate::{
+    entries::{CAUSE_WITH_MARK, OTHER_NAMED_CAUSE, WRITING_CUTS},
     judge,
     proved::{self, Written},
     report::{Answer, Report},
 };
 
-/// Writing cuts a field that does not fit its bits.
-const WRITING_CUTS: &str = "D6";
-/// An `Other` cause of initialisation of 0 to 2 is written, and reads back as the named one.
-const OTHER_NAMED_CAUSE: &str = "D7";
-/// The element of type 70 is taken apart into a mark and a cause.
-const CAUSE_WITH_MARK: &str = "D8";
-
 const OUT_OF_RANGE: u8 = 15;
 
 pub fn compare(report: &mut Report) {
+    report.level("octets");
     quality_descriptors(report);
     points(report);
     counter_octet(report);

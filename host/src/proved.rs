@@ -35,7 +35,7 @@ mod exported {
 pub type Written<const N: usize> = Result<[u8; N], u8>;
 
 /// What stands in an output before a call: where it is still there, nothing was written.
-const UNTOUCHED: u8 = 0xA5;
+pub const UNTOUCHED: u8 = 0xA5;
 
 /// Room past what a call may write, to see that it is left alone.
 const BEYOND: usize = 3;

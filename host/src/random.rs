@@ -21,4 +21,18 @@ impl Random {
     pub fn next_u8(&mut self) -> u8 {
         (self.next_u64() >> 56) as u8
     }
+
+    /// A number from 0 on, below `end`.
+    pub fn below(&mut self, end: usize) -> usize {
+        (self.next_u64() % end as u64) as usize
+    }
+
+    /// True once in `turns`.
+    pub fn once_in(&mut self, turns: usize) -> bool {
+        self.below(turns) == 0
+    }
+
+    pub fn pick<'a, T>(&mut self, all: &'a [T]) -> &'a T {
+        &all[self.below(all.len())]
+    }
 }

@@ -13,7 +13,7 @@ use iec104::{
     link::{Event, Link, State},
 };
 
-use crate::{hex, refusals};
+use crate::{hex, panics, refusals};
 
 pub fn frame(text: &str) -> Result<bool, String> {
     let octets = hex::to_octets(text)?;
@@ -42,8 +42,7 @@ pub fn asdu(text: &str) -> Result<bool, String> {
 
 /// Runs what shows an answer; a panic of the Rust is an answer too.
 fn show(answer: impl FnOnce() + UnwindSafe) -> Result<bool, String> {
-    panic::set_hook(Box::new(|_| {}));
-    if panic::catch_unwind(answer).is_err() {
+    if panics::caught(answer).is_none() {
         println!("panics");
     }
     Ok(true)

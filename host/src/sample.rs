@@ -1,11 +1,15 @@
-//! The stored sample: answers of the Rust on octets, which the program crates/replay holds the proved library to
-//! where no Rust is at hand. A line is 36 bytes: a letter for the kind, eight octets given and the eight octets that
-//! the Rust answers, in hexadecimal and filled up with zeros. A small letter reads octets to fields, a capital writes
-//! them. Fields are those of `judge`. A number has its high octet first, and a signed one is moved up by half its
-//! range, so that it does not look like its octets on the wire.
+//! The stored sample: answers of the Rust, which the program crates/replay holds the proved library to where no Rust is
+//! at hand. A line has a letter for the kind, octets given and octets that the Rust answers, in hexadecimal: of an
+//! element or a number eight of each, filled up with zeros; of an ASDU see `asdu::sample`. A small letter reads, a
+//! capital writes. Fields are those of `judge`. A number has its high octet first, and a signed one is moved up by half
+//! its range, so that it does not look like its octets on the wire.
 use iec104::types::{MBoNa1, MItNa1, MMeNb1, MMeNc1};
 
 use crate::{
+    asdu::{
+        self,
+        record::{raised_i8, raised_i16, raised_i32},
+    },
     hex, judge,
     numbers::edges,
     octets::{counter_fields, marks_and_state, octets, step_fields},
@@ -27,6 +31,7 @@ pub fn write() -> bool {
         sixteen_bits(&mut lines, bits as u16);
         thirty_two_bits(&mut lines, bits);
     }
+    lines.push(asdu::sample::lines(&mut random));
     print!("{}", lines.concat());
     true
 }
@@ -81,7 +86,7 @@ fn step_position(lines: &mut Vec<String>) {
 }
 
 fn step_octets(value: i8, [transient, iv, nt, sb, bl, ov]: [u8; 6]) -> [u8; 7] {
-    [transient, iv, nt, sb, bl, ov, value.cast_unsigned() ^ 0x80]
+    [transient, iv, nt, sb, bl, ov, raised_i8(value)]
 }
 
 fn sixteen_bits(lines: &mut Vec<String>, bits: u16) {
@@ -113,12 +118,4 @@ fn thirty_two_bits(lines: &mut Vec<String>, bits: u32) {
     let value = f32::from_bits(bits);
     let float: [u8; 5] = judge::written(&MMeNc1 { value, ..Default::default() });
     lines.push(line('B', &bits.to_be_bytes(), &float[..4]));
-}
-
-fn raised_i16(value: i16) -> [u8; 2] {
-    (value.cast_unsigned() ^ 0x8000).to_be_bytes()
-}
-
-fn raised_i32(value: i32) -> [u8; 4] {
-    (value.cast_unsigned() ^ 0x8000_0000).to_be_bytes()
 }

@@ -1,18 +1,16 @@
 -- The octet level of demand 2, from the one law of layouts and the one of numbers. Assumes nothing.
-use Prim.Native.Nat.{ℕ, zero, suc, _+_, _*_, _-_, _^_, _<_, _≤_}
+use Prim.Native.Nat.{ℕ, zero, suc, _+_, _*_, _^_, _<_, _≤_}
 use mathlib.Core.Path.{_≡_, refl, sym, ap, _∙_}
 use mathlib.Core.Bool.{Bool, true, false}
-use mathlib.Core.List.{List, [], _∷_, _++_}
+use mathlib.Core.List.{List, [], _∷_}
 use native.Mathlib.Omega.{arith}
 use native.Mathlib.Nat.{pow-suc}
 use borrow.Author.Tests.{lt-ltb, le-ltb, ltb-true, ltb-false, ne-eqb}
 use lib.Dec.{T, eqb, ltb}
-use lib.IntN.{ℤ}
-use lib.ListN.{getD, length, take}
+use lib.ListN.{getD}
 use lib.Pow.{pow-add}
 use lib.Signed.{mag}
-use Rattle.laws.specs.Bits.{Layout, _at_, field, flag, num, fields, octet, kept, apart, whole}
-use Rattle.laws.specs.Lists.{Octets}
+use Rattle.laws.specs.Bits.{Layout, _at_, field, flag, num, octet, kept, apart, whole}
 use Rattle.laws.specs.Numbers.{leOf, leOctets, signedOf, bitsOf}
 use Rattle.laws.proofs.Layouts.{fields-octet, fields-fit, writes-again, reserves, flag-num, num-flag, num-fits, kept-whole}
 use Rattle.laws.proofs.Numbers as numbers
@@ -20,9 +18,9 @@ use Rattle.laws.specs.Choice.{pick}
 use Rattle.elements.specs.Refusals.{refusal, valueOutOfRange, octetNumber, octetIn, pairNumber, pairFirst, pairSecond}
 use Rattle.elements.specs.Quality.{qdsLayout, qdsOf, qdsOctet, seqQdLayout, seqQdOf, seqQdOctet, seqQdAnswer}
 use Rattle.elements.specs.Points.{siqLayout, siqOf, siqOctet, spiOf, spiBits, diqLayout, diqOf, diqOctet, dpiOf, dpiBits}
-use Rattle.elements.specs.Steps.{vtiLayout, vtiOf, vtiOctet, vtiAnswer}
+use Rattle.elements.specs.Steps.{vtiLayout, vtiOf, vtiOctet}
 use Rattle.elements.specs.Causes.{coiOf, coiAnswer}
-use Rattle.elements.specs.Promises.{Bitwise, Octetwise, StepPair, WrittenPair, SignedOctets, PlainOctets, OctetLevel}
+use Rattle.elements.specs.Promises.{Bitwise, Octetwise, StepPair, SignedOctets, OctetLevel}
 use Rattle.elements.specs.declared.refusals.OctetAnswer.{OctetAnswer}
 use Rattle.elements.specs.declared.refusals.OctetAnswer.the-variants.{Octet, Refused}
 use Rattle.elements.specs.declared.refusals.PairAnswer.the-variants as Pair

@@ -1,6 +1,6 @@
 -- IEC 60870-5-101: single point SIQ and double point DIQ, each with its quality marks.
-use Prim.Native.Nat.{ℕ, suc}
-use mathlib.Core.List.{List, [], _∷_}
+use Prim.Native.Nat.{ℕ}
+use mathlib.Core.List.{[], _∷_}
 use lib.Dec.{eqb}
 use Rattle.laws.specs.Bits.{field, flag, num, Layout, _at_, octet}
 use Rattle.laws.specs.Choice.{pick}

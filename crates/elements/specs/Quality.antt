@@ -1,6 +1,6 @@
 -- IEC 60870-5-101: QDS, and the octet that follows a counter reading. Bit positions as in document 01, "Octets and types".
 use Prim.Native.Nat.{ℕ}
-use mathlib.Core.List.{List, [], _∷_}
+use mathlib.Core.List.{[], _∷_}
 use lib.Dec.{ltb}
 use Rattle.laws.specs.Bits.{field, flag, num, Layout, _at_, octet}
 use Rattle.laws.specs.Choice.{pick}

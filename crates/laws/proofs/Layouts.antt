@@ -2,16 +2,16 @@
 -- that a field keeps, and what is left over has just the others.
 use Prim.Native.Nat.{ℕ, zero, suc, _+_, _*_, _/_, _%_, _^_, _-_, _<_, _≤_}
 use mathlib.Core.Path.{_≡_, refl, sym, ap, _∙_}
-use mathlib.Core.Bool.{Bool, true, false, _&&_, _||_}
+use mathlib.Core.Bool.{Bool, true, false, _&&_}
 use mathlib.Core.List.{List, [], _∷_}
 use native.Mathlib.Omega.{arith}
 use native.Mathlib.Numerals.{one-add}
 use native.Mathlib.Decide.{decLt}
-use native.Mathlib.Nat.{div-one, add-mul, mul-assoc, mul-comm, add-assoc, zero-add, lt-of-lt-of-le, mod-lt, zero-mul, pow-suc, mod-eq-of-lt, add-mul-div-right, zero-div}
+use native.Mathlib.Nat.{div-one, add-mul, mul-assoc, mul-comm, add-assoc, zero-add, lt-of-lt-of-le, mod-lt, zero-mul, pow-suc, add-mul-div-right, zero-div}
 use lib.Pow.{pow-add, pow-pos, pow-mono, high, low, mod-pow-add, shr-shr, shl-shr, mod-mod-pow}
 use lib.Arith.{digits-lt, bin-ind}
-use lib.Dec.{T, leb, ltb, leb→le, eqb, eqb→eq}
-use borrow.Author.Tests.{le-leb, lt-leb, lt-ltb, le-ltb, leb-true, ltb-true, ltb-false, leb-false}
+use lib.Dec.{T, leb, leb→le, eqb, eqb→eq}
+use borrow.Author.Tests.{le-leb, lt-leb, lt-ltb, le-ltb}
 use Rattle.laws.specs.Choice.{pick}
 use Rattle.laws.specs.Bits.{field, flag, num, Field, Layout, fields, octet, kept, reserved, keeps, apart}
 use Rattle.laws.specs.Promises.{Fitting, ReadsBack, WritesAgain, Reserves}
@@ -202,17 +202,23 @@ sub-bits (suc i) k b h =
     let up : (n : ℕ) → n / 2 ^ suc i ≡ n / 2 / 2 ^ i = λ n. ap (λ (y : ℕ). n / 2 ^ y) (sym (one-add i)) ∙ sym (shr-shr n 1 i) in
     rw (up (b - k), up b, up k, d) (sub-bits i (k / 2) (b / 2) (halves k b h))
 
-pub reserves : Reserves
-reserves hi l b i o =
-    let in-b : Within (kept l b) b = λ j. at-most (keeps l j) (field j 1 b) (sym (bit-is j b)) (sym (bit-is j (kept l b)) ∙ writes-again hi l b j o) in
-    bit-is i (reserved l b)
-    ∙ (sub-bits i (kept l b) b in-b
-    ∙ (rw (← bit-is i b, ← bit-is i (kept l b), writes-again hi l b i o) (rest (keeps l i) (field i 1 b))))
+-- what a layout keeps is there
+kept-within : (hi : ℕ) (l : Layout) (b : ℕ) → T (apart 0 l hi) → Within (kept l b) b
+kept-within hi l b o j = at-most (keeps l j) (field j 1 b) (sym (bit-is j b)) (sym (bit-is j (kept l b)) ∙ writes-again hi l b j o)
   where
     at-most : (t : Bool) (x : ℕ) {y z : ℕ} → y ≡ x → z ≡ pick t x 0 → z ≤ y
     at-most true x p q = omega arith
     at-most false x p q = omega arith
 
+pub kept-most : (hi : ℕ) (l : Layout) (b : ℕ) → T (apart 0 l hi) → kept l b ≤ b
+kept-most hi l b o = within-le (kept l b) b (kept-within hi l b o)
+
+pub reserves : Reserves
+reserves hi l b i o =
+    bit-is i (reserved l b)
+    ∙ (sub-bits i (kept l b) b (kept-within hi l b o)
+    ∙ (rw (← bit-is i b, ← bit-is i (kept l b), writes-again hi l b i o) (rest (keeps l i) (field i 1 b))))
+  where
     rest : (t : Bool) (x : ℕ) → x - pick t x 0 ≡ pick t 0 x
     rest true x = omega arith
     rest false x = omega arith

@@ -1,4 +1,5 @@
 pub mod Tests
+pub mod Choices
 pub mod Layouts
 pub mod Numbers
 pub mod Lists

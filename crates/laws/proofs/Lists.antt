@@ -1,16 +1,30 @@
--- Laws of lists: storing in a row, values by index, parts written back, rings.
-use Prim.Native.Nat.{ℕ, zero, suc, _+_, _-_, _*_, _%_, _<_, _≤_}
+-- Laws of lists: octets, storing in a row, parts written back, values by index, padding, rings.
+use Prim.Native.Nat.{ℕ, zero, suc, _+_, _-_, _%_, _<_, _≤_}
 use mathlib.Core.Path.{_≡_, refl, sym, ap, _∙_}
-use mathlib.Core.Bool.{Bool, true, false}
-use mathlib.Core.Logic.{_⊎_, inl, inr, ⊎-elim}
 use mathlib.Core.List.{List, [], _∷_, _++_, append-assoc, append-nil}
 use native.Mathlib.Omega.{arith}
 use native.Mathlib.Numerals.{add-one}
-use native.Mathlib.Nat.{zero-add, add-zero, add-suc, add-assoc, add-sub-of-le, mod-add-mod, mod-lt, mod-eq-of-lt, mod-eq-sub-mod}
+use native.Mathlib.Nat.{zero-add, add-zero, add-suc, le-add-right, add-assoc, add-sub-of-le, mod-add-mod, mod-lt, mod-eq-of-lt, mod-eq-sub-mod}
 use native.Mathlib.Decide.{decLt}
-use lib.ListN.{replicate, length-replicate, length, set, take, drop, getD, length-append, length-take, length-drop, length-set, List·getD-append}
-use lib.Seq.{take-length, sets, sets-eq, length-sets, set-out, drop-drop, take-at, drop-at, getD-at, getD-take, getD-drop, getD-append-add, ext-getD}
-use Rattle.laws.specs.Lists.{put, tabulate, ring, padded}
+use lib.ListN.{replicate, length-replicate, length, set, take, drop, getD, length-append, length-take, length-drop, take-append-drop, List·getD-append}
+use lib.Seq.{take-length, drop-length, take-set-le, drop-set-add, sets, sets-eq, length-sets, set-out, drop-drop, take-at, drop-at, getD-at, getD-take, getD-drop, getD-append-add, ext-getD}
+use Rattle.laws.specs.Lists.{Octets, put, tabulate, ring, padded}
+
+-- ---- octets
+
+pub octet-fits : (s : List ℕ) (i : ℕ) → Octets s → getD s i 0 < 256
+octet-fits [] i o = omega arith
+octet-fits (b ∷ s) zero o = o .0
+octet-fits (b ∷ s) (suc i) o = octet-fits s i (o .1)
+
+pub octets-all : (s : List ℕ) → ((i : ℕ) → getD s i 0 < 256) → Octets s
+octets-all [] h = tt
+octets-all (b ∷ s) h = (h 0, octets-all s (λ i. h (suc i)))
+
+pub octets-drop : (n : ℕ) (s : List ℕ) → Octets s → Octets (drop n s)
+octets-drop zero s o = o
+octets-drop (suc n) [] o = tt
+octets-drop (suc n) (b ∷ s) o = octets-drop n s (o .1)
 
 -- ---- storing values in a row
 
@@ -43,7 +57,7 @@ module _ {A : Type 0} where
       let part = drop at d in
       let lp : length vs ≤ length part = simp length-drop (omega arith) in
       let ls : length (sets part 0 vs) ≡ length part = length-sets part 0 vs in
-      let none : drop (length (sets part 0 vs)) part ≡ [] = rw ls (lib.Seq.drop-length part) in
+      let none : drop (length (sets part 0 vs)) part ≡ [] = rw ls (drop-length part) in
       rw (none, append-nil, sets-all part vs lp, drop-drop (length vs) at d) (sym (sets-eq vs d at h ∙ append-assoc (take at d) vs _))
 
   pub put-put : (d : List A) (at : ℕ) (s t : List A) → at + length s + length t ≤ length d → put (put d at s) (at + length s) t ≡ put d at (s ++ t)
@@ -79,6 +93,20 @@ module _ {A : Type 0} where
   put-part d at s h =
       let lt : length (take at d) ≡ at = simp length-take (omega arith) in
       ap (take (length s)) (drop-at (take at d) _ at lt) ∙ take-at s _ (length s) refl
+
+  -- values stored in the part from a place on are stored in the list, as far as it reaches
+  pub part-sets : (l : List A) (at i : ℕ) (vs : List A) → take at l ++ sets (drop at l) i vs ≡ sets l (at + i) vs
+  part-sets l at i [] = take-append-drop at l
+  part-sets l at i (v ∷ vs) =
+      let m = set l (at + i) v in
+      rw (← drop-set-add at l i v, ← take-set-le at l (at + i) v (le-add-right at i), ← add-suc at i) (part-sets m at (suc i) vs)
+
+  -- the part from a place to the end, lent and put back
+  pub rest-sets : (l : List A) (at : ℕ) (vs : List A) {s : List A}
+      → s ≡ sets (take (length l - at) (drop at l)) 0 vs → take at l ++ (s ++ drop (length l - at) (drop at l)) ≡ sets l at vs
+  rest-sets l at vs e =
+      let none : drop (length l - at) (drop at l) ≡ [] = ap (λ (n : ℕ). drop n (drop at l)) (sym (length-drop at l)) ∙ drop-length (drop at l) in
+      rw (e, none, append-nil, to-the-end l at) (part-sets l at 0 vs ∙ ap (λ (n : ℕ). sets l n vs) (add-zero at))
 
   -- ---- values by index
 

@@ -1,11 +1,11 @@
 -- The remainder law of a window, for any modulus.
-use Prim.Native.Nat.{ℕ, _+_, _-_, _%_, _<_, _≤_}
+use Prim.Native.Nat.{ℕ, _+_, _-_, _%_, _<_}
 use mathlib.Core.Path.{_≡_, sym, ap, _∙_}
 use native.Mathlib.Omega.{arith}
-use native.Mathlib.Nat.{add-sub-of-le, mod-add-mod, mod-lt, mod-eq-of-lt, mod-eq-sub-mod}
+use native.Mathlib.Nat.{mod-add-mod, mod-lt, mod-eq-of-lt, mod-eq-sub-mod}
 use native.Mathlib.Decide.{decLt}
-use Rattle.laws.specs.Window.{Confirms, freed}
-use Rattle.laws.specs.Promises.{Window, WindowLaw}
+use Rattle.laws.specs.Window.{freed}
+use Rattle.laws.specs.Promises.{Window}
 
 -- the remainder d places after one that has remainder x
 turn : (a d m : ℕ) → (a + d) % m ≡ (a % m + d) % m

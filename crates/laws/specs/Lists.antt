@@ -1,7 +1,7 @@
 -- Lists that contracts cite: a part written back, values by index, padding, a ring.
 -- `sets l i vs` of the library stores vs in l from place i on; what lies past the end is left out.
 use Prim.Native.Nat.{ℕ, zero, suc, _+_, _%_, _<_}
-use mathlib.Core.Bool.{Bool, true, false, _&&_}
+use mathlib.Core.Bool.{Bool, true, _&&_}
 use mathlib.Core.List.{List, [], _∷_, _++_}
 use lib.ListN.{length, take, drop, replicate}
 

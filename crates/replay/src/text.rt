@@ -1,5 +1,13 @@
-// Eight octets as pairs of hexadecimal digits.
-ghost use Prim.Native.Nat.{_<_};
+// Octets as pairs of hexadecimal digits.
+ghost use Prim.Native.Nat.{_<_, _≤_};
+
+// The first n bytes, or all where there are not so many.
+pub fn start_of(s: &[u8], n: usize) -> &[u8] {
+    if n <= s.len() {
+        return &s[0..n];
+    }
+    s
+}
 
 // A byte that is no digit has a value too: the octet is then not written as it was read.
 fn digit_value(glyph: u8) -> u8 {
@@ -15,29 +23,23 @@ fn digit_value(glyph: u8) -> u8 {
     (glyph - b'a' + 10) % 16
 }
 
-fn take_octet(text: &[u8], at: usize, octets: &mut [u8], place: usize)
-    requires { ⌜ at < 36 ⌝ }
+fn octet_at(text: &[u8], at: usize) -> u8
+    requires { ⌜ at < 8192 ⌝ }
 {
     let high = digit_value(laws::octet_at(text, at)) % 16;
     let low = digit_value(laws::octet_at(text, at + 1)) % 16;
-    laws::put_octet(octets, place, high * 16 + low);
+    high * 16 + low
 }
 
-fn take_four(text: &[u8], at: usize, octets: &mut [u8], place: usize)
-    requires { ⌜ at < 30 ⌝ }
-    requires { ⌜ place < 5 ⌝ }
+// The first n octets from the start of a text.
+pub fn take_octets(text: &[u8], octets: &mut [u8], n: usize)
+    requires { ⌜ n ≤ 4096 ⌝ }
 {
-    take_octet(text, at, octets, place);
-    take_octet(text, at + 2, octets, place + 1);
-    take_octet(text, at + 4, octets, place + 2);
-    take_octet(text, at + 6, octets, place + 3);
-}
-
-pub fn take_octets(text: &[u8], at: usize, octets: &mut [u8])
-    requires { ⌜ at < 20 ⌝ }
-{
-    take_four(text, at, octets, 0);
-    take_four(text, at + 8, octets, 4);
+    let mut i: usize = 0;
+    while i < n {
+        laws::put_octet(octets, i, octet_at(text, i * 2));
+        i += 1;
+    }
 }
 
 fn glyph(value: u8) -> u8 {
@@ -49,25 +51,19 @@ fn glyph(value: u8) -> u8 {
 }
 
 fn put_digits(text: &mut [u8], at: usize, octet: u8)
-    requires { ⌜ at < 36 ⌝ }
+    requires { ⌜ at < 16384 ⌝ }
 {
     laws::put_octet(text, at, glyph(octet / 16));
     laws::put_octet(text, at + 1, glyph(octet));
 }
 
-fn put_four(text: &mut [u8], at: usize, octets: &[u8], place: usize)
-    requires { ⌜ at < 30 ⌝ }
-    requires { ⌜ place < 5 ⌝ }
+// The first n octets, from a place of the text on.
+pub fn put_octets(text: &mut [u8], at: usize, octets: &[u8], n: usize)
+    requires { ⌜ (at ≤ 8192) × (n ≤ 4096) ⌝ }
 {
-    put_digits(text, at, laws::octet_at(octets, place));
-    put_digits(text, at + 2, laws::octet_at(octets, place + 1));
-    put_digits(text, at + 4, laws::octet_at(octets, place + 2));
-    put_digits(text, at + 6, laws::octet_at(octets, place + 3));
-}
-
-pub fn put_octets(text: &mut [u8], at: usize, octets: &[u8])
-    requires { ⌜ at < 20 ⌝ }
-{
-    put_four(text, at, octets, 0);
-    put_four(text, at + 8, octets, 4);
+    let mut i: usize = 0;
+    while i < n {
+        put_digits(text, at + i * 2, laws::octet_at(octets, i));
+        i += 1;
+    }
 }

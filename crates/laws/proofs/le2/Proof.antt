@@ -1,7 +1,6 @@
 -- `laws::le2` meets its contract. Assumes nothing.
 use Prim.Native.Nat.{_+_}
 use mathlib.Core.Path.{sym, _∙_}
-use native.Mathlib.Omega.{arith}
 use borrow.Author.Needs.{needs}
 use Rattle.laws.proofs.Numbers.{le-one, le-more, le-past}
 use Rattle.laws.proofs.le2.Statement.{statement}

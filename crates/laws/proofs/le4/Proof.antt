@@ -1,6 +1,5 @@
 -- `laws::le4` meets its contract. Assumes nothing.
 use mathlib.Core.Path.{sym}
-use native.Mathlib.Omega.{arith}
 use borrow.Author.Needs.{needs}
 use Rattle.laws.proofs.Numbers.{le-more, le-past}
 use Rattle.laws.proofs.le4.Statement.{statement}

@@ -1,6 +1,6 @@
 -- `laws::put_le2` meets its contract. Assumes nothing.
 use Prim.Native.Nat.{_%_}
-use mathlib.Core.Path.{sym, ap, _∙_}
+use mathlib.Core.Path.{sym, _∙_}
 use lib.ListN.{length-set}
 use borrow.Author.Needs.{needs}
 use Rattle.laws.specs.Numbers.{leOctets}

@@ -1,6 +1,6 @@
 -- `laws::put_le3` meets its contract. Assumes nothing.
-use Prim.Native.Nat.{_+_, _/_, _%_}
-use mathlib.Core.Path.{sym, ap, _∙_}
+use Prim.Native.Nat.{_/_}
+use mathlib.Core.Path.{sym, _∙_}
 use lib.ListN.{length-set}
 use borrow.Author.Needs.{needs}
 use Rattle.laws.specs.Numbers.{leOctets}

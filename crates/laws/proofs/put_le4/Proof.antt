@@ -1,10 +1,9 @@
 -- `laws::put_le4` meets its contract. Assumes nothing.
-use Prim.Native.Nat.{_+_, _/_, _%_}
-use mathlib.Core.Path.{sym, ap, _∙_}
+use mathlib.Core.Path.{sym, _∙_}
 use lib.ListN.{length-set}
 use borrow.Author.Needs.{needs}
 use Rattle.laws.specs.Numbers.{leOctets}
-use Rattle.laws.proofs.Numbers.{put-more, octets-low}
+use Rattle.laws.proofs.Numbers.{put-more}
 use Rattle.laws.proofs.Lists.{sets-past}
 use Rattle.laws.proofs.put_le4.Statement.{statement}
 use Rattle.laws.proofs.put_le4.Tie as tie

@@ -1,5 +1,5 @@
 -- `elements::information_elements::step_of` meets its contract. Assumes nothing.
-use Prim.Native.Nat.{_+_, _%_}
+use Prim.Native.Nat.{_%_}
 use mathlib.Core.Path.{_≡_, _∙_}
 use native.Mathlib.Omega.{arith}
 use mir.Syntax.{w8}

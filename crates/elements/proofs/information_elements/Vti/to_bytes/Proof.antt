@@ -1,11 +1,10 @@
 -- `elements::information_elements::Vti::to_bytes` meets its contract. Assumes nothing.
 use mathlib.Core.Path.{_≡_, ap, _∙_}
 use native.Mathlib.Omega.{arith}
-use lib.IntN.{ℤ}
 use mir.Syntax.{w8}
 use mir.Val.{toZ, ofZ, SFits}
 use lib.Signed.{mag}
-use Prim.Native.Nat.{ℕ, _+_, _*_, _-_, _<_, _≤_}
+use Prim.Native.Nat.{ℕ, _<_, _≤_}
 use borrow.Author.Needs.{needs}
 use Rattle.laws.specs.Numbers.{bitsOf}
 use Rattle.elements.specs.declared.refusals.PairAnswer.the-variants.{Octets}

@@ -1,0 +1,4 @@
+pub mod Starts
+pub mod Walk
+pub mod Lengths
+pub mod Kept

@@ -1,0 +1,6 @@
+pub mod Header
+pub mod Records
+pub mod Reading
+pub mod Puts
+pub mod Writing
+pub mod Plain

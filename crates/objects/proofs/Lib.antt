@@ -1,0 +1,3 @@
+pub mod TypeNumbers
+pub mod Elements
+pub mod Objects

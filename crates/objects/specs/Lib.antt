@@ -1,0 +1,4 @@
+pub mod Kinds
+pub mod Elements
+pub mod Objects
+pub mod Promises
