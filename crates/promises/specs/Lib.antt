@@ -1,1 +1,2 @@
 pub mod Asdus
+pub mod Frames

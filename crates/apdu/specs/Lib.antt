@@ -1,0 +1,4 @@
+pub mod Control
+pub mod Reading
+pub mod Writing
+pub mod Plain

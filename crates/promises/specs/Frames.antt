@@ -1,0 +1,78 @@
+-- Demand 2 for frames, and document 01's marked cases for reading.
+use Prim.Native.Nat.{ℕ, _+_, _<_, _≤_}
+use mathlib.Core.Path.{_≡_}
+use mathlib.Core.Bool.{Bool, true, false}
+use mathlib.Core.List.{List, [], _∷_, _++_}
+use lib.ListN.{length, drop, replicate}
+use Rattle.laws.specs.Bits.{Layout, _at_, whole}
+use Rattle.laws.specs.Lists.{Octets}
+use Rattle.objects.specs.Promises.{keptBy}
+use Rattle.asdu.specs.Header.{headerAnswer}
+use Rattle.asdu.specs.Reading.{readAsdu}
+use Rattle.asdu.specs.Writing.{asduOctets}
+use Rattle.asdu.specs.declared.Asdu.{Asdu}
+use Rattle.asdu.specs.declared.PlainAnswer.the-variants as PlainAnswer
+use Rattle.apdu.specs.Control.{sendNumber, receiveNumber}
+use Rattle.apdu.specs.Reading.{frameAnswer, frameNumber, asduPart}
+use Rattle.apdu.specs.Writing.{iOctets, sOctets, uOctets, iRefusal, sRefusal, roomRefusal}
+use Rattle.apdu.specs.Plain.{plainFrame}
+use Rattle.apdu.specs.declared.frame.UFrame.{UFrame}
+use Rattle.apdu.specs.declared.frame.FrameAnswer.{FrameAnswer}
+use Rattle.apdu.specs.declared.frame.FrameAnswer.the-variants.{I, S, U, Refused}
+use Rattle.promises.specs.Asdus.{TypedAsdu, ReadBack, asduForm}
+
+-- ---- reads back
+
+-- an I frame that the writer accepts reads with the same numbers, and its part is the ASDU that reads back as the same record
+pub record IBack (s r : ℕ) (a : Asdu) : Type 0 where
+  pub answer : frameAnswer (iOctets s r (asduOctets a)) ≡ I (sendNumber s) (receiveNumber r)
+  pub part : asduPart (iOctets s r (asduOctets a)) ≡ asduOctets a
+  pub back : ReadBack a
+
+pub record FrameReadsBack : Type 0 where
+  pub i : (s r : ℕ) (a : Asdu) (room : ℕ) → TypedAsdu a → iRefusal s r a room ≡ 0 → IBack s r a
+  pub s : (r room : ℕ) → sRefusal r room ≡ 0 → frameAnswer (sOctets r) ≡ S (receiveNumber r)
+  pub u : (u : UFrame) → frameAnswer (uOctets u) ≡ U u
+
+-- ---- writes again
+
+-- the octets of writing a frame's reading
+abbrev pub rewritten : FrameAnswer → List ℕ → List ℕ
+rewritten (I s r) f = iOctets (s .0) (r .0) (asduOctets (readAsdu (drop 6 f) .asdu))
+rewritten (S r) f = sOctets (r .0)
+rewritten (U u) f = uOctets u
+rewritten (Refused r) f = []
+
+-- what the writer refuses of a frame's reading where the output has `room` octets
+abbrev pub rewriteRefusal : FrameAnswer → List ℕ → ℕ → ℕ
+rewriteRefusal (I s r) f room = iRefusal (s .0) (r .0) (readAsdu (drop 6 f) .asdu) room
+rewriteRefusal (S r) f room = sRefusal (r .0) room
+rewriteRefusal (U u) f room = roomRefusal 6 room
+rewriteRefusal (Refused r) f room = r .0
+
+-- the layouts of all octets of a frame, in wire order: beside those of an ASDU's elements only the S frame reserves a bit
+abbrev pub frameForm : FrameAnswer → List ℕ → List Layout
+frameForm (I s r) f = replicate 6 whole ++ asduForm (headerAnswer (drop 6 f))
+frameForm (S r) f = replicate 4 whole ++ ((7 at 1 ∷ []) ∷ whole ∷ [])
+frameForm (U u) f = replicate 6 whole
+frameForm (Refused r) f = []
+
+pub record FrameAgain (f : List ℕ) (room : ℕ) : Type 0 where
+  pub accepted : rewriteRefusal (frameAnswer f) f room ≡ 0
+  pub long : length (rewritten (frameAnswer f) f) ≡ length f
+  pub kept : rewritten (frameAnswer f) f ≡ keptBy (frameForm (frameAnswer f) f) f
+
+abbrev pub FrameWritesAgain : Type 0
+FrameWritesAgain = (f : List ℕ) (room : ℕ) → Octets f → frameNumber (frameAnswer f) ≡ 0 → length f ≤ room → FrameAgain f room
+
+-- ---- tells
+
+pub record FrameTold (f : List ℕ) : Type 0 where
+  pub yes : plainFrame f ≡ PlainAnswer.Plain → (frameNumber (frameAnswer f) ≡ 0) × (rewritten (frameAnswer f) f ≡ f)
+  pub no : frameNumber (frameAnswer f) ≡ 0 → rewritten (frameAnswer f) f ≡ f → plainFrame f ≡ PlainAnswer.Plain
+  pub else : plainFrame f ≡ PlainAnswer.Reserved → (frameNumber (frameAnswer f) ≡ 0) × (rewritten (frameAnswer f) f ≡ f → ⊥)
+
+pub record FrameLevel : Type 0 where
+  pub back : FrameReadsBack
+  pub again : FrameWritesAgain
+  pub tells : (f : List ℕ) → Octets f → FrameTold f
