@@ -1,0 +1,141 @@
+// The bench: commands from standard input, one a line, are run on the proved library and answered in a line each.
+//
+//     frame HEX         I NS NR ASDUHEX, S NR, U HH (the first control octet)
+//     asdu HEX          TYPE SEQ TEST NEG CAUSE ORIG ADDR COUNT, and for each object ADDRESS:name=value,..
+//     plain HEX         plain or reserved: whether writing the reading of the frame gives the same bytes
+//     plainasdu HEX     the same of an ASDU
+//     rewrite HEX       the bytes of writing the reading of the frame
+//     rewriteasdu HEX   the same of an ASDU
+//
+// or `refused N`, by document 01's number. `-` stands for an empty HEX, a mark is 0 or 1, other numbers are decimal.
+// Any other line is `bad`.
+mod answers;
+mod asdus;
+mod frames;
+mod hex;
+mod text;
+mod values;
+
+use hex::HexAnswer;
+use libc::STDIN_FILENO;
+use libc::STDOUT_FILENO;
+
+// The longest line that is taken, and the most octets that it can hold.
+const LINE_SIZE: usize = 4096;
+
+const OCTETS_SIZE: usize = LINE_SIZE / 2;
+// The longest answer, to 120 step positions in sequence, has under 7,000 bytes.
+const ANSWER_SIZE: usize = 8192;
+
+struct Input {
+    going: bool,
+    // Bytes of a line whose end has not come.
+    held: usize,
+}
+
+fn put_answer(out: &mut [u8], command: &[u8], given: &[u8]) -> usize {
+    if check::same(command, b"frame") {
+        return frames::put_reading(out, given);
+    }
+    if check::same(command, b"plain") {
+        return frames::put_plain(out, given);
+    }
+    if check::same(command, b"rewrite") {
+        return frames::put_rewritten(out, given);
+    }
+    if check::same(command, b"asdu") {
+        return asdus::put_reading(out, given);
+    }
+    if check::same(command, b"plainasdu") {
+        return asdus::put_plain(out, given);
+    }
+    if check::same(command, b"rewriteasdu") {
+        return asdus::put_rewritten(out, given);
+    }
+    answers::put_bad(out)
+}
+
+// A command and its octets, with one space between.
+fn answer(out: &mut [u8], line: &[u8]) -> usize {
+    let space = text::find(line, b' ');
+    let digits = laws::part_from(line, std::num::wrapping_add_usize(space, 1));
+    let mut octets = [0u8; OCTETS_SIZE];
+    let taken = hex::take_octets(digits, &mut octets);
+    let HexAnswer::Octets(n) = taken else {
+        return answers::put_bad(out);
+    };
+    put_answer(out, text::part_to(line, space), text::part_to(&octets, n))
+}
+
+// A line that is longer than its buffer is bad.
+fn answer_held(out: &mut [u8], line: &[u8], held: usize) -> usize {
+    if line.len() < held {
+        return answers::put_bad(out);
+    }
+    answer(out, text::part_to(line, held))
+}
+
+fn run(line: &[u8], held: usize, out: &mut [u8]) {
+    let end = answer_held(out, line, held);
+    let end = text::put_byte(out, end, b'\n');
+    io::write_all(STDOUT_FILENO, text::part_to(out, end));
+}
+
+// A line's end has it answered; any other byte is held. The result is how many bytes are held then.
+fn take_byte(byte: u8, line: &mut [u8], held: usize, out: &mut [u8]) -> usize {
+    if byte == b'\n' {
+        run(line, held, out);
+        return 0;
+    }
+    text::put_byte(line, held, byte)
+}
+
+fn take_bytes(bytes: &[u8], line: &mut [u8], held: usize, out: &mut [u8]) -> usize {
+    let mut holding = held;
+    let mut i: usize = 0;
+    while i < bytes.len() {
+        holding = take_byte(bytes[i], line, holding, out);
+        i += 1;
+    }
+    holding
+}
+
+// What has come so far, so that a line is answered before the next one is there.
+fn take_some(line: &mut [u8], input: Input, out: &mut [u8]) -> Input {
+    let mut bytes = [0u8; 4096];
+    let got = libc::read(STDIN_FILENO, &mut bytes);
+    let n = io::count(got, &bytes);
+    if n == 0 {
+        return Input {
+            going: false,
+            held: input.held,
+        };
+    }
+    Input {
+        going: true,
+        held: take_bytes(&bytes[..n], line, input.held, out),
+    }
+}
+
+// A proved loop ends: this one by a count that no input uses up.
+fn take_all(line: &mut [u8], out: &mut [u8]) -> usize {
+    let mut input = Input {
+        going: true,
+        held: 0,
+    };
+    let mut turns = u64::MAX;
+    while turns > 0 && input.going {
+        input = take_some(line, input, out);
+        turns -= 1;
+    }
+    input.held
+}
+
+fn main() {
+    let mut line = [0u8; LINE_SIZE];
+    let mut out = [0u8; ANSWER_SIZE];
+    let held = take_all(&mut line, &mut out);
+    if 0 < held {
+        run(&line, held, &mut out);
+    }
+}
