@@ -1,6 +1,6 @@
--- IEC 60870-5-101, the data unit identifier: type; sequence bit 7 and count n in bits 0 to 6; test bit 7, negative bit 6 and
--- cause in bits 0 to 5; originator; common address of two octets. Then, plain: n times an address of three octets and an
--- element. Sequence: one address and n elements, whose addresses rise by 1.
+-- IEC 60870-5-101, the data unit identifier, with the sizes that 60870-5-104 fixes: type; sequence bit 7 and count n in
+-- bits 0 to 6; test bit 7, negative bit 6 and cause in bits 0 to 5; originator; common address of two octets. Then, plain:
+-- n times an address of three octets and an element. Sequence: one address and n elements, whose addresses rise by 1.
 use Prim.Native.Nat.{ℕ, _+_, _*_}
 use mathlib.Core.Bool.{Bool, true, false, _&&_, _||_, not}
 use mathlib.Core.List.{List, [], _∷_}

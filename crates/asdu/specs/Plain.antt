@@ -48,3 +48,9 @@ plainAnswer s =
     pick (eqb (readRefusal s) 0)
     (pick (plainBy (headerAnswer s) s) PlainAnswer.Plain PlainAnswer.Reserved)
     (PlainAnswer.Refused (refusal (readRefusal s)))
+
+-- an answer's number: 0 for plain and for reserved bits set
+abbrev pub plainNumber : PlainAnswer → ℕ
+plainNumber PlainAnswer.Plain = 0
+plainNumber PlainAnswer.Reserved = 0
+plainNumber (PlainAnswer.Refused r) = r .0

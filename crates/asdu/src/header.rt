@@ -77,7 +77,7 @@ pub fn step_of(kind: Kind, sequence: bool) -> usize
     kinds::size_of(kind) + ADDRESS_SIZE
 }
 
-// The octets of an ASDU with n objects, where n is at most 127.
+// The octets of an ASDU with n objects.
 pub fn needed_len(kind: Kind, sequence: bool, n: u8) -> usize
     ensures { λ r. ⌜ r ≡ needed kind sequence n ⌝ }
     ensures { λ r. ⌜ r ≤ 2049 ⌝ }

@@ -5,6 +5,7 @@ use lib.ListN.{length}
 use lib.Dec.{eqb}
 use Rattle.laws.specs.Bits.{Layout, whole}
 use Rattle.laws.specs.Choice.{pick}
+use Rattle.elements.specs.Refusals.{typeNotCarried}
 use Rattle.elements.specs.Quality.{qdsLayout, seqQdLayout}
 use Rattle.elements.specs.Points.{siqLayout, diqLayout}
 use Rattle.elements.specs.Steps.{vtiLayout}
@@ -44,8 +45,13 @@ among (k ∷ ks) t = pick (eqb t (typeOf k)) (Carried k) (among ks t)
 abbrev pub kindOf : ℕ → KindAnswer
 kindOf t = among kinds t
 
--- the octets of an element, in wire order, each with the fields that it keeps:
--- the one place that knows them; sizes and reserved bits follow
+-- an answer's number: 11 for a type that is not carried
+abbrev pub kindNumber : KindAnswer → ℕ
+kindNumber (Carried k) = 0
+kindNumber NotCarried = typeNotCarried
+
+-- the octets of an element, in wire order, each with the fields that it keeps. Sizes and reserved bits follow from it;
+-- that reading and writing an element agree with it is shown (`again` and `sized` of `ElementLevel`)
 abbrev pub formOf : Kind → List Layout
 formOf MSpNa1 = siqLayout ∷ []
 formOf MDpNa1 = diqLayout ∷ []

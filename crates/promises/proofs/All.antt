@@ -1,9 +1,17 @@
--- All promises of the ASDU level together. Assumes nothing.
+-- The promises of the ASDU level and of the frame level, each together. Assumes nothing.
 use Rattle.promises.specs.Asdus.{AsduLevel}
+use Rattle.promises.specs.Frames.{FrameLevel}
 use Rattle.promises.proofs.ReadBack.{reads-back}
 use Rattle.promises.proofs.WriteAgain.{writes-again}
 use Rattle.promises.proofs.Tells.{tells}
 use Rattle.promises.proofs.Accepts.{accepts}
+use Rattle.promises.proofs.Answered.{answers}
+use Rattle.promises.proofs.FrameBack.{frame-reads-back}
+use Rattle.promises.proofs.FrameAgain.{frame-writes-again}
+use Rattle.promises.proofs.FrameTells.{frame-tells}
 
 pub asdu-level : AsduLevel
-asdu-level = record { back = reads-back; again = writes-again; tells = tells; accepts = accepts }
+asdu-level = record { back = reads-back; again = writes-again; tells = tells; accepts = accepts; answers = answers }
+
+pub frame-level : FrameLevel
+frame-level = record { back = frame-reads-back; again = frame-writes-again; tells = frame-tells }

@@ -3,4 +3,9 @@ pub mod Accepts
 pub mod ReadBack
 pub mod WriteAgain
 pub mod Tells
+pub mod Answered
+pub mod FrameBack
+pub mod FrameAgain
+pub mod FrameTells
+pub mod FrameCases
 pub mod All

@@ -14,8 +14,8 @@ use Rattle.objects.specs.declared.Object.{Object}
 use Rattle.asdu.specs.Header.{countLayout, causeLayout, causeListed, needed, headerAnswer}
 use Rattle.asdu.specs.Records.{answerNumber, blanks}
 use Rattle.asdu.specs.Reading.{readRefusal, readAsdu}
-use Rattle.asdu.specs.Writing.{ownObjects, writeRefusal, asduOctets}
-use Rattle.asdu.specs.Plain.{plainAnswer}
+use Rattle.asdu.specs.Writing.{ownObjects, writeRefusal, asduOctets, writeAnswer, writeNumber, writtenCount}
+use Rattle.asdu.specs.Plain.{plainAnswer, plainNumber}
 use Rattle.asdu.specs.declared.Asdu.{Asdu}
 use Rattle.asdu.specs.declared.PlainAnswer.the-variants as PlainAnswer
 use Rattle.asdu.specs.declared.header.HeaderAnswer.{HeaderAnswer}
@@ -100,7 +100,8 @@ Tells = (s : List ℕ) → Octets s → Told s
 
 -- ---- accepts exactly the layout
 
--- an ASDU laid out by the standard from fields in range, within document 01's limits
+-- an ASDU laid out by the standard from fields in range, within document 01's limits. The body is free but for its length
+-- and the first address: any octets are elements, since a reserved bit is read as nothing.
 pub record Laid (s : List ℕ) : Type 0 where
   pub kind : Kind
   pub count : ℕ
@@ -129,6 +130,15 @@ pub record Accepts (s : List ℕ) : Type 0 where
   pub takes : Laid s → Octets s → readRefusal s ≡ 0
   pub only : Octets s → readRefusal s ≡ 0 → Laid s
 
+-- ---- answers
+
+-- the number that each call answers is the refusal that the other promises speak of; a refused ASDU gets the reading's
+pub record Answers : Type 0 where
+  pub reading : (s : List ℕ) → answerNumber (readAsdu s .answer) ≡ readRefusal s
+  pub telling : (s : List ℕ) → plainNumber (plainAnswer s) ≡ readRefusal s
+  pub writing : (a : Asdu) (room : ℕ) → writeNumber (writeAnswer a room) ≡ writeRefusal a room
+  pub counting : (a : Asdu) (room : ℕ) → writeRefusal a room ≡ 0 → writtenCount (writeAnswer a room) ≡ length (asduOctets a)
+
 -- ---- all of it
 
 pub record AsduLevel : Type 0 where
@@ -136,3 +146,4 @@ pub record AsduLevel : Type 0 where
   pub again : WritesAgain
   pub tells : Tells
   pub accepts : (s : List ℕ) → Accepts s
+  pub answers : Answers

@@ -1,7 +1,6 @@
--- Demand 2 for frames, and document 01's marked cases for reading.
-use Prim.Native.Nat.{ℕ, _+_, _<_, _≤_}
+-- Demand 2 for frames. The sentences are the letter's; docs/PROMISES.md has them side by side with these statements.
+use Prim.Native.Nat.{ℕ, _≤_}
 use mathlib.Core.Path.{_≡_}
-use mathlib.Core.Bool.{Bool, true, false}
 use mathlib.Core.List.{List, [], _∷_, _++_}
 use lib.ListN.{length, drop, replicate}
 use Rattle.laws.specs.Bits.{Layout, _at_, whole}
@@ -71,6 +70,8 @@ pub record FrameTold (f : List ℕ) : Type 0 where
   pub yes : plainFrame f ≡ PlainAnswer.Plain → (frameNumber (frameAnswer f) ≡ 0) × (rewritten (frameAnswer f) f ≡ f)
   pub no : frameNumber (frameAnswer f) ≡ 0 → rewritten (frameAnswer f) f ≡ f → plainFrame f ≡ PlainAnswer.Plain
   pub else : plainFrame f ≡ PlainAnswer.Reserved → (frameNumber (frameAnswer f) ≡ 0) × (rewritten (frameAnswer f) f ≡ f → ⊥)
+
+-- ---- all of it
 
 pub record FrameLevel : Type 0 where
   pub back : FrameReadsBack

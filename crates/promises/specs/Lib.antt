@@ -1,2 +1,3 @@
 pub mod Asdus
 pub mod Frames
+pub mod Cases
