@@ -24,6 +24,8 @@ pub fn all() -> impl Iterator<Item = Entry> {
 pub const SEQUENCE_WRITTEN: &str = "D1";
 /// Elements of no octets in a sequence make the Rust panic.
 pub const EMPTY_ELEMENTS: &str = "D2";
+/// The length octet is not compared with the frame's length.
+pub const LENGTH_NOT_COMPARED: &str = "D3";
 /// Addresses of a sequence run past three octets.
 pub const ADDRESSES_RUN_PAST: &str = "D4";
 /// There is no limit of 249 octets.

@@ -1,6 +1,7 @@
 //! Holds the proved library to the Rust crate iec104 0.6.0; see README.md.
 mod asdu;
 mod entries;
+mod frames;
 mod hex;
 mod judge;
 mod numbers;
@@ -16,7 +17,6 @@ mod show;
 
 use std::{env, process::ExitCode, time::Instant};
 
-use asdu::compare::{FULL, QUICK};
 use random::Random;
 use report::Report;
 
@@ -74,7 +74,10 @@ fn compare(options: &[&str]) -> Result<bool, String> {
     show::compare(&mut report);
     octets::compare(&mut report);
     numbers::compare(&mut report, &mut random, if full { FULL_NUMBERS } else { QUICK_NUMBERS });
-    asdu::compare::compare(&mut report, &mut random, if full { &FULL } else { &QUICK });
+    let extent = if full { &asdu::compare::FULL } else { &asdu::compare::QUICK };
+    asdu::compare::compare(&mut report, &mut random, extent);
+    let extent = if full { &frames::compare::FULL } else { &frames::compare::QUICK };
+    frames::compare::compare(&mut report, &mut random, extent);
     let same = report.close();
     println!("seed {seed}, {:.1} s", started.elapsed().as_secs_f64());
     Ok(same)

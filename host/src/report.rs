@@ -6,7 +6,7 @@ use crate::entries::{self, Entry};
 /// How many of the differences outside the list are shown.
 const SHOWN: u64 = 10;
 
-struct Listed {
+struct Found {
     count: u64,
     smallest: String,
 }
@@ -23,7 +23,7 @@ struct Group {
 pub struct Report {
     level: &'static str,
     groups: Vec<Group>,
-    listed: BTreeMap<&'static str, Listed>,
+    listed: BTreeMap<&'static str, Found>,
     unlisted: u64,
 }
 
@@ -31,6 +31,29 @@ pub struct Report {
 pub struct Answer<T> {
     pub given: T,
     pub expected: T,
+}
+
+impl<T: PartialEq> Answer<T> {
+    fn is_as_expected(&self) -> bool {
+        self.given == self.expected
+    }
+}
+
+/// A case of an entry of the list, and whether each side answers as the entry says.
+pub struct Listed {
+    pub entry: &'static str,
+    pub ours: bool,
+    pub rust: bool,
+}
+
+impl Listed {
+    pub fn of<O: PartialEq, R: PartialEq>(
+        entry: &'static str,
+        ours: &Answer<O>,
+        rust: &Answer<R>,
+    ) -> Listed {
+        Listed { entry, ours: ours.is_as_expected(), rust: rust.is_as_expected() }
+    }
 }
 
 impl Report {
@@ -51,8 +74,7 @@ impl Report {
         }
     }
 
-    /// A case of an entry of the list: both sides must answer as the entry says. An entry's first case is its
-    /// smallest: `show` comes before the others.
+    /// Both sides must answer as the entry says.
     pub fn listed<O: PartialEq + Debug, R: PartialEq + Debug>(
         &mut self,
         entry: &'static str,
@@ -60,14 +82,25 @@ impl Report {
         ours: Answer<O>,
         rust: Answer<R>,
     ) {
+        self.held(Listed::of(entry, &ours, &rust), input, ours.given, rust.given);
+    }
+
+    /// The same where the answers were held to the entry before. An entry's first case is its smallest: `show` comes
+    /// before the others.
+    pub fn held(
+        &mut self,
+        Listed { entry, ours: ours_is, rust: rust_is }: Listed,
+        input: impl Debug,
+        ours: impl Debug,
+        rust: impl Debug,
+    ) {
         self.count().listed += 1;
-        let as_listed = ours.given == ours.expected && rust.given == rust.expected;
-        let case =
-            || format!("{input:02x?}: ours {:02x?}, the Rust {:02x?}", ours.given, rust.given);
-        if let (true, Some(listed)) = (as_listed, self.listed.get_mut(entry)) {
-            listed.count += 1;
+        let as_listed = ours_is && rust_is;
+        let case = || format!("{input:02x?}: ours {ours:02x?}, the Rust {rust:02x?}");
+        if let (true, Some(found)) = (as_listed, self.listed.get_mut(entry)) {
+            found.count += 1;
         } else if as_listed && entries::all().any(|listed| listed.id == entry) {
-            self.listed.insert(entry, Listed { count: 1, smallest: case() });
+            self.listed.insert(entry, Found { count: 1, smallest: case() });
         } else {
             self.differ(format!("not as {entry} of docs/DIFFERENCES.md says: {}", case()));
         }
@@ -100,7 +133,7 @@ impl Report {
         }
         println!("differences");
         for Entry { id, .. } in entries::all() {
-            if let Some(Listed { count, smallest }) = self.listed.get(id) {
+            if let Some(Found { count, smallest }) = self.listed.get(id) {
                 println!(
                     "{count:>12}  as {id} of docs/DIFFERENCES.md says; the smallest: {smallest}"
                 );

@@ -1,8 +1,8 @@
 //! The stored sample: answers of the Rust, which the program crates/replay holds the proved library to where no Rust is
 //! at hand. A line has a letter for the kind, octets given and octets that the Rust answers, in hexadecimal: of an
-//! element or a number eight of each, filled up with zeros; of an ASDU see `asdu::sample`. A small letter reads, a
-//! capital writes. Fields are those of `judge`. A number has its high octet first, and a signed one is moved up by half
-//! its range, so that it does not look like its octets on the wire.
+//! element or a number eight of each, filled up with zeros; of an ASDU see `asdu::sample`, of a frame `frames::sample`.
+//! A small letter reads, a capital writes. Fields are those of `judge`. A number has its high octet first, and a signed
+//! one is moved up by half its range, so that it does not look like its octets on the wire.
 use iec104::types::{MBoNa1, MItNa1, MMeNb1, MMeNc1};
 
 use crate::{
@@ -10,7 +10,7 @@ use crate::{
         self,
         record::{raised_i8, raised_i16, raised_i32},
     },
-    hex, judge,
+    frames, hex, judge,
     numbers::edges,
     octets::{counter_fields, marks_and_state, octets, step_fields},
     random::Random,
@@ -32,6 +32,7 @@ pub fn write() -> bool {
         thirty_two_bits(&mut lines, bits);
     }
     lines.push(asdu::sample::lines(&mut random));
+    lines.push(frames::sample::lines(&mut random));
     print!("{}", lines.concat());
     true
 }

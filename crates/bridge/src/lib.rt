@@ -1,12 +1,10 @@
 // The proved library for the programs that test it: host/ links these functions, and crates/replay calls them. An
-// element is the list of its fields (fields.rt). What may be refused is written to `out`, with the number of the
-// refusal as the result, 0 for none. A list that is too short reads as 0 and takes nothing past its end, so no call
-// can fail.
+// element is the list of its fields (bridge_records, fields.rt). What may be refused is written to `out`, with the
+// number of the refusal as the result, 0 for none. A list that is too short reads as 0 and takes nothing past its
+// end, so no call can fail. Frames are in `bridge_frames`.
 pub mod asdus;
-mod fields;
-pub mod raised;
-mod records;
 
+use bridge_records::fields;
 use elements::information_elements::Coi;
 use elements::information_elements::Diq;
 use elements::information_elements::Siq;

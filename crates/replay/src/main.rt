@@ -2,6 +2,7 @@
 // Standard input is the stored sample, made by `tools/differential sample` (host/src/sample.rs, seed 104). Each line
 // that the library's answer does not agree with, or that is broken, is shown.
 mod asdus;
+mod frames;
 mod lines;
 mod octets;
 mod text;

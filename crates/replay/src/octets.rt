@@ -1,6 +1,6 @@
 // The library's answer on an element or a number, by the letter of its kind: a small letter reads octets, a capital writes
 // them.
-use bridge::raised;
+use bridge_records::raised;
 
 // The value of a step position stands after its marks.
 fn reads_vti(given: &[u8], told: &[u8]) -> bool {

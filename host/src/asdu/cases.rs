@@ -12,7 +12,7 @@ use crate::{
     entries,
     hex::Hex,
     judge::read_coi,
-    report::{Answer, Report},
+    report::{Answer, Listed, Report},
 };
 
 #[derive(Clone, Copy, PartialEq)]
@@ -95,32 +95,34 @@ fn has_change_mark(octets: &[u8]) -> bool {
 /// Compares both sides on one ASDU.
 pub fn compare(report: &mut Report, octets: &[u8]) {
     let (ours, rust) = (proved::answers(octets), judge::answers(octets));
+    match listed(octets, &ours, &rust) {
+        Some(listed) => report.held(listed, Hex(octets), ours, rust),
+        None => report.same(Hex(octets), ours, rust),
+    }
+}
+
+/// How the answers stand to the entry of the case; nothing where they must be the same.
+pub fn listed(octets: &[u8], ours: &Answers, rust: &Answers) -> Option<Listed> {
     match case_of(octets) {
-        Case::Same => report.same(Hex(octets), ours, rust),
+        Case::Same => None,
         Case::Refused { entry, number } => {
             let expected = Answers::refused(octets, Refusal::Number(number));
-            let rust = Answer { given: Outcome::of(&rust), expected: outcome(octets, &rust) };
-            report.listed(entry, Hex(octets), Answer { given: ours, expected }, rust);
+            let rust = Answer { given: Outcome::of(rust), expected: outcome(octets, rust) };
+            Some(Listed::of(entry, &Answer { given: ours, expected: &expected }, &rust))
         }
         Case::RunsPast => {
             let expected = Answers::refused(octets, Refusal::Number(14));
-            let rust = Answer { given: rust, expected: run_past(octets) };
+            let rust = Answer { given: rust, expected: &run_past(octets) };
             let entry = entries::ADDRESSES_RUN_PAST;
-            report.listed(entry, Hex(octets), Answer { given: ours, expected }, rust);
+            Some(Listed::of(entry, &Answer { given: ours, expected: &expected }, &rust))
         }
-        Case::Read { entry } => read_by_both(report, entry, octets, ours, rust),
+        Case::Read { entry } => Some(read_by_both(entry, octets, ours, rust)),
     }
 }
 
 /// Ours must agree with itself, and the Rust's answers must follow from ours. The Rust reads what it writes again,
 /// but for a sequence of several objects (D1).
-fn read_by_both(
-    report: &mut Report,
-    entry: &'static str,
-    octets: &[u8],
-    ours: Answers,
-    rust: Answers,
-) {
+fn read_by_both(entry: &'static str, octets: &[u8], ours: &Answers, rust: &Answers) -> Listed {
     let expected = Answers::derived(octets, ours.reading.clone(), ours.rewriting.clone());
     let reading = ours.reading.clone().map(as_the_rust_reads);
     let rewriting = ours.rewriting.as_ref().map(|again| as_the_rust_writes(again));
@@ -129,9 +131,9 @@ fn read_by_both(
     let rust_reads = rust.rewriting.as_ref().map(|again| judge::reading(again).is_ok());
     let rust_reads = rust_reads.map_err(Refusal::clone);
     let reads_back = !matches!(layout_of(octets), (true, 2..));
-    let ours = Answer { given: (ours, ours_fits), expected: (expected, true) };
-    let rust = Answer { given: (rust, rust_reads), expected: (rust_expected, Ok(reads_back)) };
-    report.listed(entry, Hex(octets), ours, rust);
+    let ours = Answer { given: (ours, ours_fits), expected: (&expected, true) };
+    let rust = Answer { given: (rust, rust_reads), expected: (&rust_expected, Ok(reads_back)) };
+    Listed::of(entry, &ours, &rust)
 }
 
 /// D8: bit 7 of a cause of initialisation is a mark of its own.

@@ -53,7 +53,7 @@ pub fn write_to(record: &Record, out: &mut Vec<u8>) -> Result<(), Refusal> {
     written_to(&asdu(record), out)
 }
 
-fn record(asdu: &Asdu) -> Record {
+pub fn record(asdu: &Asdu) -> Record {
     Record {
         type_id: asdu.type_id as u8,
         sequence: asdu.sequence,
@@ -67,7 +67,7 @@ fn record(asdu: &Asdu) -> Record {
 }
 
 /// The objects of a record are of one kind in the Rust: that of the first, or the type's where there is none.
-fn asdu(record: &Record) -> Asdu {
+pub fn asdu(record: &Record) -> Asdu {
     let kind = record.objects.first().map_or(record.type_id, |first| first.kind);
     Asdu {
         type_id: TypeId::from(record.type_id),

@@ -2,6 +2,7 @@
 pub mod answers;
 pub mod cases;
 pub mod compare;
+pub mod inputs;
 pub mod judge;
 pub mod layout;
 pub mod make;

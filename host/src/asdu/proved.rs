@@ -24,7 +24,7 @@ mod exported {
     }
 }
 
-/// The answers besides a refusal's number (crates/bridge/src/asdus.rt).
+/// The answers besides a refusal's number (crates/bridge_records/src/answers.rt).
 const RESERVED: u32 = 100;
 const READING_REFUSED: u32 = 0x10000;
 const WRITING_REFUSED: u32 = 0x20000;
@@ -32,9 +32,9 @@ const WRITING_REFUSED: u32 = 0x20000;
 const RECORD_SIZE: usize = HEADER_SIZE + MAX_OBJECTS * OBJECT_SIZE;
 
 /// Room past what a call may write, to see that it is left alone.
-const BEYOND: usize = 3;
+pub const BEYOND: usize = 3;
 
-/// More than any ASDU that is written.
+/// More than any ASDU or frame that is written.
 pub const ROOM: usize = 256;
 
 pub fn answers(octets: &[u8]) -> Answers {
@@ -46,7 +46,7 @@ pub fn answers(octets: &[u8]) -> Answers {
     }
 }
 
-fn refused(number: u32) -> Refusal {
+pub fn refused(number: u32) -> Refusal {
     Refusal::Number(u8::try_from(number).expect("a number of refusal"))
 }
 
@@ -74,7 +74,11 @@ fn checking(octets: &[u8]) -> Result<(), Refusal> {
 }
 
 fn plain(octets: &[u8]) -> Result<bool, Refusal> {
-    match unsafe { exported::gg_asdu_plain(octets.as_ptr(), octets.len()) } {
+    told_plain(unsafe { exported::gg_asdu_plain(octets.as_ptr(), octets.len()) })
+}
+
+pub fn told_plain(answer: u32) -> Result<bool, Refusal> {
+    match answer {
         0 => Ok(true),
         RESERVED => Ok(false),
         number => Err(refused(number)),
@@ -96,7 +100,7 @@ pub fn writing(record: &Record, room: usize) -> Result<Vec<u8>, Refusal> {
 }
 
 /// Calls with an output of `room` octets; past what is reported written it must be as it was.
-fn written(
+pub fn written(
     input: impl Debug,
     room: usize,
     call: impl FnOnce(*mut u8, usize) -> u32,

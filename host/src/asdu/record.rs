@@ -1,6 +1,6 @@
-//! The record of an ASDU, and the list of octets that the exported functions have for it (crates/bridge/src/records.rt).
-//! Fields stand in the order of `names`, in an octet each, numbers with their high octet first and signed ones moved up
-//! by half their range: so they do not look like their octets on the wire.
+//! The record of an ASDU, and the list of octets that the exported functions have for it
+//! (crates/bridge_records/src/records.rt). Fields stand in the order of `names`, in an octet each, numbers with their
+//! high octet first and signed ones moved up by half their range: so they do not look like their octets on the wire.
 use std::fmt;
 
 pub const HEADER_SIZE: usize = 9;

@@ -30,14 +30,14 @@ pub fn lines(random: &mut Random) -> String {
     read.chain(written).collect()
 }
 
-fn line(kind: char, given: &[u8], told: &[u8]) -> String {
+pub fn line(kind: char, given: &[u8], told: &[u8]) -> String {
     let (given_len, told_len) = (given.len(), told.len());
     let (given, told) = (hex::from_octets(given), hex::from_octets(told));
     format!("{kind} {given_len:04x} {told_len:04x} {given} {told}\n")
 }
 
 /// Where only writing differs (D1), reading is compared.
-fn both_read_alike(octets: &[u8]) -> bool {
+pub fn both_read_alike(octets: &[u8]) -> bool {
     let only_writing = Case::Read { entry: entries::SEQUENCE_WRITTEN };
     [Case::Same, only_writing].contains(&case_of(octets))
 }

@@ -17,12 +17,17 @@ pub fn compare(report: &mut Report, random: &mut Random, records: u32) {
     report.level("records");
     report.group("any that is good, with up to two changes that may make it bad, written");
     for _ in 0..records {
-        let mut record = any_good(random);
-        for _ in 0..random.below(3) {
-            change(random, &mut record);
-        }
-        written_by_both(report, &record);
+        written_by_both(report, &any_changed(random));
     }
+}
+
+/// Any that is good, with up to two changes that may make it bad.
+pub fn any_changed(random: &mut Random) -> Record {
+    let mut record = any_good(random);
+    for _ in 0..random.below(3) {
+        change(random, &mut record);
+    }
+    record
 }
 
 fn any_good(random: &mut Random) -> Record {
@@ -66,7 +71,7 @@ fn change_object(random: &mut Random, record: &mut Record) {
 }
 
 /// What refuses a record, as document 01 orders it, and the entry that says what the Rust does instead.
-fn refusal(record: &Record) -> Option<(u8, &'static str)> {
+pub fn refusal(record: &Record) -> Option<(u8, &'static str)> {
     if !layout::is_listed(record.cause) {
         return Some((10, entries::ANY_CAUSE));
     }
@@ -116,7 +121,7 @@ fn cut(object: &Object) -> Fields {
 }
 
 /// The Rust writes what it is given, with an address for every object.
-fn as_the_rust_writes(record: &Record) -> (Result<(), Refusal>, Vec<u8>) {
+pub fn as_the_rust_writes(record: &Record) -> (Result<(), Refusal>, Vec<u8>) {
     let count = record.objects.len();
     if count > MAX_OBJECTS {
         return (Err(Refusal::Number(12)), vec![record.type_id]);
@@ -180,7 +185,7 @@ fn accepted(
 }
 
 /// What the Rust writes, without the addresses after the first of a sequence.
-fn with_one_address(record: &Record, octets: &[u8]) -> Vec<u8> {
+pub fn with_one_address(record: &Record, octets: &[u8]) -> Vec<u8> {
     if !record.sequence {
         return octets.to_vec();
     }

@@ -1,12 +1,12 @@
--- `bridge::records::put_objects` is safe and ends: the measure is the number of objects that are left.
+-- `bridge_records::records::put_objects` is safe and ends: the measure is the number of objects that are left.
 -- Assumes nothing.
 use mathlib.Core.Path.{_≡_, refl}
 use lib.ListN.{length}
 use native.Mathlib.Omega.{arith}
 use borrow.Author.Needs.{needs}
 use Prim.Native.Nat.{_-_}
-use Rattle.bridge.proofs.records.put_objects.Statement.{statement}
-use Rattle.bridge.proofs.records.put_objects.Tie as tie
+use Rattle.bridge_records.proofs.records.put_objects.Statement.{statement}
+use Rattle.bridge_records.proofs.records.put_objects.Tie as tie
 
 abbrev Inv-loop : tie.InvT-loop
 Inv-loop out₀ asdu i₀ out i = length out ≡ length out₀

@@ -1,10 +1,10 @@
--- `bridge::records::objects_in` is safe and ends: the measure is the number of objects that are left.
+-- `bridge_records::records::objects_in` is safe and ends: the measure is the number of objects that are left.
 -- Assumes nothing.
 use native.Mathlib.Omega.{arith}
 use borrow.Author.Needs.{needs}
 use Prim.Native.Nat.{_-_}
-use Rattle.bridge.proofs.records.objects_in.Statement.{statement}
-use Rattle.bridge.proofs.records.objects_in.Tie as tie
+use Rattle.bridge_records.proofs.records.objects_in.Statement.{statement}
+use Rattle.bridge_records.proofs.records.objects_in.Tie as tie
 
 abbrev Inv-loop : tie.InvT-loop
 Inv-loop s found₀ i₀ found i = Unit {0}
