@@ -19,8 +19,7 @@ pub extern "C" fn gb_read(f: &[u8], place: usize) -> u32 {
     let FrameAnswer::I(_, _) = answer else {
         return 0;
     };
-    let read = asdu_read::read_asdu(reading::asdu_of(f));
-    let asdu = read.asdu;
+    let asdu = asdu_read::read_record(reading::asdu_of(f));
     let object = asdu.objects[place % 127];
     object.address
 }
@@ -45,8 +44,7 @@ pub extern "C" fn gb_plain(f: &[u8]) -> u32 {
 // Reads the frame once, and writes its record as an I frame so many times, each with another originator.
 #[no_mangle]
 pub extern "C" fn gb_write(f: &[u8], out: &mut [u8], times: u32) -> u32 {
-    let read = asdu_read::read_asdu(reading::asdu_of(f));
-    let mut asdu = read.asdu;
+    let mut asdu = asdu_read::read_record(reading::asdu_of(f));
     let mut i: u32 = 0;
     let mut length: usize = 0;
     while i < times {
