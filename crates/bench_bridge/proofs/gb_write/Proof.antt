@@ -17,8 +17,8 @@ abbrev μ-loop : tie.MeasureT-loop
 asdu-of-requires : tie.Need-asdu-of-requires Inv-loop μ-loop
 asdu-of-requires c κs = tt
 
-read-asdu-requires : tie.Need-read-asdu-requires Inv-loop μ-loop
-read-asdu-requires c κs = tt
+read-record-requires : tie.Need-read-record-requires Inv-loop μ-loop
+read-record-requires c κs = tt
 
 loop-holds : tie.Need-loop-holds Inv-loop μ-loop
 loop-holds c = refl
@@ -66,7 +66,7 @@ gb-write-spec =
     Inv-loop
     μ-loop
     asdu-of-requires
-    read-asdu-requires
+    read-record-requires
     loop-holds
     low-requires
     write-i-requires
