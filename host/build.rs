@@ -1,5 +1,5 @@
 //! Links the proved library, the archives of `$GRASSGLISTEN_NATIVE`.
-const ARCHIVES: [&str; 2] = ["bridge", "bridge_frames"];
+const ARCHIVES: [&str; 3] = ["bridge", "bridge_frames", "bench_bridge"];
 
 fn main() {
     println!("cargo:rerun-if-env-changed=GRASSGLISTEN_NATIVE");

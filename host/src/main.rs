@@ -1,5 +1,6 @@
 //! Holds the proved library to the Rust crate iec104 0.6.0; see README.md.
 mod asdu;
+mod bench;
 mod entries;
 mod frames;
 mod hex;
@@ -22,6 +23,7 @@ use report::Report;
 
 const USAGE: &str = "grassglisten-host COMMAND
   compare [--quick | --full] [--seed N]   the proved library and the Rust on the same inputs; 1 where they differ
+  bench                                   times the library, the Rust and a plain copy of the same frames
   show ENTRY                              an entry of docs/DIFFERENCES.md: both sides on its smallest inputs
   sample                                  the Rust's answers that crates/replay replays, to standard output
   rust frame HEX | rust asdu HEX          what the Rust reads, and writes again
@@ -38,6 +40,7 @@ fn main() -> ExitCode {
     let words: Vec<&str> = words.iter().map(String::as_str).collect();
     let done = match words.as_slice() {
         ["compare", options @ ..] => compare(options),
+        ["bench"] => Ok(bench::bench()),
         ["show", entry] => show::show(entry),
         ["sample"] => Ok(sample::write()),
         ["rust", "frame", hex @ ..] => rust::frame(&hex.concat()),

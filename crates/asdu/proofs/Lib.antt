@@ -1,4 +1,5 @@
 pub mod Starts
 pub mod Walk
+pub mod Checked
 pub mod Lengths
 pub mod Kept

@@ -29,32 +29,19 @@ module _ (s : List ℕ) where
   unfolding headerRefusal _then_
   past-start e = rw e
 
-  at-start : eqb (startRefusal s) 0 ≡ false → headerRefusal s ≡ startRefusal s
-  unfolding headerRefusal _then_
-  at-start e = rw e
-
-  refuses : (r : ℕ) → headerRefusal s ≡ r → eqb r 0 ≡ false → HeaderAnswer.Refused (refusal r) ≡ headerAnswer s
-  unfolding headerAnswer
-  refuses r e t = rw (e, t)
-
-  pub refuses-start : eqb (startRefusal s) 0 ≡ false → HeaderAnswer.Refused (refusal (startRefusal s)) ≡ headerAnswer s
-  refuses-start t = refuses (startRefusal s) (at-start t) t
-
-  pub refuses-type : startRefusal s ≡ 0 → kindOf (getD s 0 0) ≡ NotCarried → HeaderAnswer.Refused (refusal typeNotCarried) ≡ headerAnswer s
-  refuses-type e k = refuses typeNotCarried (past-start e ∙ ap (λ (a : KindAnswer). kindRefusal a s) k) refl
-
   abbrev layoutHere : Kind → ℕ
   layoutHere k = layoutRefusal k (sequenceIn s) (countIn s) (length s)
 
-  pub refuses-layout : (k : Kind) → startRefusal s ≡ 0 → kindOf (getD s 0 0) ≡ Carried k → eqb (layoutHere k) 0 ≡ false
-      → HeaderAnswer.Refused (refusal (layoutHere k)) ≡ headerAnswer s
-  refuses-layout k e f t = refuses (layoutHere k) (past-start e ∙ ap (λ (a : KindAnswer). kindRefusal a s) f) t
+  pub refuses : eqb (headerRefusal s) 0 ≡ false → HeaderAnswer.Refused (refusal (headerRefusal s)) ≡ headerAnswer s
+  unfolding headerAnswer
+  refuses t = rw t
+
+  pub answers : (a : KindAnswer) → headerRefusal s ≡ 0 → kindOf (getD s 0 0) ≡ a → headerBy a s ≡ headerAnswer s
+  unfolding headerAnswer
+  answers a z f = rw (z, f)
 
   pub accepts : (k : Kind) → startRefusal s ≡ 0 → kindOf (getD s 0 0) ≡ Carried k → layoutHere k ≡ 0 → HeaderAnswer.Header (headerIn k s) ≡ headerAnswer s
-  unfolding headerAnswer
-  accepts k e f l =
-      let z : headerRefusal s ≡ 0 = past-start e ∙ (ap (λ (a : KindAnswer). kindRefusal a s) f ∙ l) in
-      rw (z, f)
+  accepts k e f l = answers (Carried k) (past-start e ∙ (ap (λ (a : KindAnswer). kindRefusal a s) f ∙ l)) f
 
 -- ---- what an answer shows
 

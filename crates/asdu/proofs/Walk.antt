@@ -1,7 +1,7 @@
 -- The objects of an ASDU, one by one: what the reader's loop and the check that needs none come to. Assumes nothing.
 use Prim.Native.Nat.{ℕ, zero, suc, _+_, _-_, _*_, _<_, _≤_}
 use mathlib.Core.Path.{_≡_, refl, ap, _∙_}
-use mathlib.Core.Bool.{Bool, true, false}
+use mathlib.Core.Bool.{Bool, true, false, _&&_}
 use mathlib.Core.List.{List}
 use native.Mathlib.Omega.{arith}
 use native.Mathlib.Decide.{decLt}
@@ -22,7 +22,7 @@ use Rattle.objects.specs.declared.ObjectAnswer.the-variants as ObjectAnswer
 use Rattle.objects.specs.declared.values.Value.{Value}
 use Rattle.asdu.specs.Header.{stepOf}
 use Rattle.asdu.specs.Records.{blanks, filled}
-use Rattle.asdu.specs.Reading.{objectIn, objectAt, answerAt, firstOf, objectsRefusal}
+use Rattle.asdu.specs.Reading.{objectIn, objectAt, answerAt, firstOf, objectsRefusal, addressesRefusal}
 use Rattle.asdu.specs.declared.header.Header.{Header}
 
 -- ---- the first refusal
@@ -144,3 +144,17 @@ module _ (h : Header) (s : List ℕ) where
 
   pub sequence-high : h .sequence ≡ true → leOf 3 (drop 6 s) ≤ 16777216 → 16777216 < leOf 3 (drop 6 s) + h .count → objectsRefusal h s ≡ wrongAddress
   sequence-high q m l = in-sequence q ∙ rise-high (leOf 3 (drop 6 s)) 0 (h .count) (omega arith) (omega arith)
+
+-- whatever the kind: by the sequence mark, the count and the first address
+by-mark : (h : Header) (s : List ℕ) (q : Bool) → h .sequence ≡ q → Octets s → objectsRefusal h s ≡ pick (q && ltb 16777216 (leOf 3 (drop 6 s) + h .count)) wrongAddress 0
+by-mark h s false e o = plain-refusal h s e o
+by-mark h s true e o =
+    let fits = le-fits 3 (drop 6 s) (octets-drop 6 s o) in
+    elim (decLt 16777216 (leOf 3 (drop 6 s) + h .count)) [
+      | yes l ↦ rw (lt-ltb 16777216 (leOf 3 (drop 6 s) + h .count) l) (sequence-high h s e (omega arith) l)
+      | no l ↦ rw (le-ltb 16777216 (leOf 3 (drop 6 s) + h .count) (omega arith)) (sequence-low h s e (omega arith))
+    ]
+
+pub by-addresses : (h : Header) (s : List ℕ) → Octets s → objectsRefusal h s ≡ addressesRefusal (h .sequence) (h .count) s
+unfolding addressesRefusal
+by-addresses h s o = by-mark h s (h .sequence) refl o

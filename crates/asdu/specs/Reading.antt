@@ -1,12 +1,13 @@
 -- What reading an ASDU answers: the header's refusal, then the objects' by index; else the record.
 use Prim.Native.Nat.{ℕ, zero, suc, _+_, _*_}
-use mathlib.Core.Bool.{Bool, true, false}
+use mathlib.Core.Bool.{Bool, true, false, _&&_}
 use mathlib.Core.List.{List}
 use lib.ListN.{drop}
-use lib.Dec.{eqb}
+use lib.Dec.{eqb, ltb}
 use Rattle.laws.specs.Choice.{pick, _then_}
 use Rattle.laws.specs.Lists.{tabulate}
 use Rattle.laws.specs.Numbers.{leOf}
+use Rattle.elements.specs.Refusals.{wrongAddress}
 use Rattle.objects.specs.Elements.{elementOf}
 use Rattle.objects.specs.Objects.{objectOf, objectAnswer, objectNumber}
 use Rattle.objects.specs.declared.kinds.Kind.{Kind}
@@ -39,6 +40,10 @@ firstOf f i (suc n) = f i then firstOf f (suc i) n
 -- the objects' refusal: 14 of the first that has one
 unfoldable pub objectsRefusal : Header → List ℕ → ℕ
 objectsRefusal h s = firstOf (λ (i : ℕ). objectNumber (answerAt h s i)) 0 (h .count)
+
+-- the same by the last address alone: those of a sequence rise, and those of the plain layout always fit
+unfoldable pub addressesRefusal : Bool → ℕ → List ℕ → ℕ
+addressesRefusal q n s = pick (q && ltb 16777216 (leOf 3 (drop 6 s) + n)) wrongAddress 0
 
 abbrev pub objectsIn : Header → List ℕ → List Object
 objectsIn h s = tabulate (objectAt h s) 0 (h .count)

@@ -3,7 +3,7 @@ ghost use mathlib.Core.Path.{_≡_};
 ghost use Prim.Native.Nat.{_≤_};
 ghost use lib.ListN.{length};
 ghost use Rattle.elements.specs.Refusals.{refusal};
-ghost use Rattle.asdu.specs.Header.{causeListed, stepOf, needed, layoutRefusal, startRefusal, headerIn, headerAnswer, headerNumber};
+ghost use Rattle.asdu.specs.Header.{causeListed, stepOf, needed, layoutRefusal, startRefusal, headerRefusal, headerIn, headerAnswer, headerNumber};
 use elements::refusals::Refusal;
 use objects::kinds;
 use objects::kinds::Kind;
@@ -143,21 +143,33 @@ fn start_refusal(s: &[u8]) -> Refusal
     Refusal::NONE
 }
 
-pub fn read_header(s: &[u8]) -> HeaderAnswer
-    ensures { λ r. ⌜ r ≡ headerAnswer (now (s .entry)) ⌝ }
+// What is refused of the header, with none made.
+pub fn header_refusal(s: &[u8]) -> Refusal
+    ensures { λ r. ⌜ r ≡ refusal (headerRefusal (now (s .entry))) ⌝ }
 {
     let start = start_refusal(s);
     if !start.is_none() {
-        return HeaderAnswer::Refused(start);
+        return start;
+    }
+    let found = kinds::kind_of(laws::octet_at(s, 0));
+    let KindAnswer::Carried(kind) = found else {
+        return Refusal::TYPE_NOT_CARRIED;
+    };
+    let size = laws::octet_at(s, 1);
+    layout_refusal(kind, size / 128 % 2 == 1, size % 128, s.len())
+}
+
+// The refusal first and the fields after it: so a caller that asks for no field pays for none (decision 39).
+pub fn read_header(s: &[u8]) -> HeaderAnswer
+    ensures { λ r. ⌜ r ≡ headerAnswer (now (s .entry)) ⌝ }
+{
+    let refused = header_refusal(s);
+    if !refused.is_none() {
+        return HeaderAnswer::Refused(refused);
     }
     let found = kinds::kind_of(laws::octet_at(s, 0));
     let KindAnswer::Carried(kind) = found else {
         return HeaderAnswer::Refused(Refusal::TYPE_NOT_CARRIED);
     };
-    let size = laws::octet_at(s, 1);
-    let layout = layout_refusal(kind, size / 128 % 2 == 1, size % 128, s.len());
-    if !layout.is_none() {
-        return HeaderAnswer::Refused(layout);
-    }
     HeaderAnswer::Header(header_of(s, kind))
 }

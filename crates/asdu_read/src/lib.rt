@@ -1,16 +1,19 @@
 // Reading an ASDU to its record (asdu.rs, `Asdu::parse`). Where the Rust used the question mark, an answer is taken apart
 // and a refusal leaves at once.
 ghost use mathlib.Core.Path.{_≡_};
-ghost use Prim.Native.Nat.{_≤_};
-ghost use Rattle.asdu.specs.Records.{blanks, asduOf, refusedWith};
-ghost use Rattle.asdu.specs.Reading.{answerAt, readBody, readAsdu};
+ghost use Prim.Native.Nat.{_+_, _≤_};
+ghost use lib.ListN.{drop};
+ghost use Rattle.laws.specs.Choice.{pick};
+ghost use Rattle.laws.specs.Numbers.{leOf};
+ghost use Rattle.asdu.specs.Records.{blanks, asduOf, noAsdu};
+ghost use Rattle.asdu.specs.Reading.{answerAt, readAsdu};
 use asdu::Answer;
 use asdu::Asdu;
 use asdu::ReadAsdu;
+use asdu::check;
 use asdu::header;
 use asdu::header::Header;
 use asdu::header::HeaderAnswer;
-use elements::refusals::Refusal;
 use objects::Object;
 use objects::ObjectAnswer;
 use objects::values;
@@ -22,11 +25,12 @@ fn blank_objects() -> [Object; 127]
     [blank; 127]
 }
 
-fn refused(refusal: Refusal) -> ReadAsdu
-    ensures { λ r. ⌜ r ≡ refusedWith (refusal .0) ⌝ }
+// The record beside a refusal: all 0 and clear.
+fn no_record() -> Asdu
+    ensures { λ r. ⌜ r ≡ noAsdu ⌝ }
 {
     let objects = blank_objects();
-    let asdu = Asdu {
+    Asdu {
         objects,
         count: 0,
         type_id: 0,
@@ -36,27 +40,30 @@ fn refused(refusal: Refusal) -> ReadAsdu
         cause: 0,
         originator: 0,
         address: 0,
-    };
-    ReadAsdu {
-        asdu,
-        answer: Answer::Refused(refusal),
     }
 }
 
+// The address of object i: in a sequence the first one and the index, else its own.
+fn address_at(s: &[u8], sequence: bool, i: usize, at: usize) -> u32
+    requires { ⌜ (i ≤ 127) × (at ≤ 2040) ⌝ }
+    ensures { λ r. ⌜ r ≡ pick sequence (leOf 3 (drop 6 (now (s .entry))) + i) (leOf 3 (drop (6 + at) (now (s .entry)))) ⌝ }
+{
+    if sequence {
+        return laws::le3(s, 6) + (i as u32);
+    }
+    laws::le3(s, 6 + at)
+}
+
+// In both layouts the element of object i stands as many steps after the ninth octet.
 fn object_answer(s: &[u8], h: Header, i: usize) -> ObjectAnswer
     requires { ⌜ i ≤ 127 ⌝ }
     ensures { λ r. ⌜ r ≡ answerAt h (now (s .entry)) i ⌝ }
 {
     let kind = h.kind;
     let at = i * header::step_of(kind, h.sequence);
-    if h.sequence {
-        let first = laws::le3(s, 6);
-        let value = values::read_element(laws::part_from(s, 9 + at), kind);
-        return objects::object_at(first + (i as u32), value);
-    }
-    let object = objects::read_object(laws::part_from(s, 6 + at), kind);
-    let value = object.value;
-    objects::object_at(object.address, value)
+    let address = address_at(s, h.sequence, i, at);
+    let value = values::read_element(laws::part_from(s, 9 + at), kind);
+    objects::object_at(address, value)
 }
 
 fn with_objects(h: Header) -> Asdu
@@ -77,33 +84,42 @@ fn with_objects(h: Header) -> Asdu
     }
 }
 
-fn read_body(s: &[u8], h: Header) -> ReadAsdu
-    requires { ⌜ h .count ≤ 127 ⌝ }
-    ensures { λ r. ⌜ r ≡ readBody h (now (s .entry)) ⌝ }
+// The record alone, for a caller that has checked the octets: where reading refuses them, it is all 0 and clear.
+// It is filled where it was made, and copied once, to the caller.
+pub fn read_record(s: &[u8]) -> Asdu
+    ensures { λ r. ⌜ r ≡ readAsdu (now (s .entry)) .asdu ⌝ }
 {
+    let found = header::read_header(s);
+    let HeaderAnswer::Header(h) = found else {
+        return no_record();
+    };
     let n = h.count;
     let mut asdu = with_objects(h);
     let mut i: usize = 0;
     while i < n {
         let answer = object_answer(s, h, i);
         let ObjectAnswer::Object(object) = answer else {
-            return refused(answer.refusal());
+            return no_record();
         };
         asdu.objects[i] = object;
         i += 1;
     }
-    ReadAsdu {
-        asdu,
-        answer: Answer::Accepted,
-    }
+    asdu
 }
 
 pub fn read_asdu(s: &[u8]) -> ReadAsdu
     ensures { λ r. ⌜ r ≡ readAsdu (now (s .entry)) ⌝ }
 {
-    let answer = header::read_header(s);
-    let HeaderAnswer::Header(h) = answer else {
-        return refused(answer.refusal());
-    };
-    read_body(s, h)
+    let asdu = read_record(s);
+    let refusal = check::check_asdu(s);
+    if !refusal.is_none() {
+        return ReadAsdu {
+            asdu,
+            answer: Answer::Refused(refusal),
+        };
+    }
+    ReadAsdu {
+        asdu,
+        answer: Answer::Accepted,
+    }
 }

@@ -1,5 +1,5 @@
 -- Octets that are stored one part after the other, and that they fit. Assumes nothing.
-use Prim.Native.Nat.{ℕ, _≤_}
+use Prim.Native.Nat.{ℕ, _+_, _≤_}
 use mathlib.Core.Path.{_≡_, refl, sym, ap, _∙_}
 use mathlib.Core.Bool.{Bool, true, false}
 use mathlib.Core.List.{List, [], _∷_, _++_}
@@ -14,7 +14,7 @@ use Rattle.objects.specs.Objects.{objectOctets}
 use Rattle.objects.specs.declared.Object.{Object}
 use Rattle.asdu.specs.Header.{countLayout, causeLayout}
 use Rattle.asdu.specs.Puts.{Put}
-use Rattle.asdu.specs.Writing.{headerOctets, addressOctets, bodyOctets, asduOctets, writeRefusal}
+use Rattle.asdu.specs.Writing.{ownObjects, firstAddress, headerOctets, addressOctets, bodyOctets, objectsOctets, asduOctets, writeRefusal}
 use Rattle.asdu.specs.declared.Asdu.{Asdu}
 use Rattle.asdu.proofs.Lengths.{listed-small, writable, asdu-long}
 
@@ -60,6 +60,12 @@ address-sequence q n e = rw e
 pub address-plain : (q : Bool) (n : ℕ) → q ≡ false → addressOctets q n ≡ []
 unfolding addressOctets
 address-plain q n e = rw e
+
+-- where the objects begin, there is room for them
+pub bodies-room : (a : Asdu) (r : ℕ) → r ≡ 6 + length (addressOctets (a .sequence) (firstAddress a))
+    → r + length (objectsOctets (a .sequence) (ownObjects a)) ≡ length (asduOctets a)
+unfolding asduOctets headerOctets leOctets
+bodies-room a r e = omega (arith, e, length-append (addressOctets (a .sequence) (firstAddress a)) (objectsOctets (a .sequence) (ownObjects a)))
 
 -- the octets of one object
 pub body-sequence : (q : Bool) (o : Object) → q ≡ true → bodyOctets q o ≡ elementOctets (o .value)

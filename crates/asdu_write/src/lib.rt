@@ -4,7 +4,7 @@ ghost use Prim.Native.Nat.{_+_, _≤_, _<_};
 ghost use lib.ListN.{length, take};
 ghost use lib.Seq.{sets};
 ghost use Rattle.elements.specs.Refusals.{refusal};
-ghost use Rattle.asdu.specs.Writing.{ownObjects, firstAddress, firstRefusal, shapeRefusal, roomRefusal, writeRefusalBy, writeRefusal, headerOctets, bodyOctets, objectsOctets, asduOctets, writeAnswer, written};
+ghost use Rattle.asdu.specs.Writing.{ownObjects, firstAddress, firstRefusal, shapeRefusal, roomRefusal, writeRefusalBy, writeRefusal, headerOctets, addressOctets, bodyOctets, objectsOctets, asduOctets, writeAnswer, written};
 ghost use Rattle.asdu.specs.Puts.{Put};
 ghost use Rattle.objects.specs.declared.kinds.KindAnswer.the-variants.{Carried};
 use asdu::Asdu;
@@ -141,17 +141,25 @@ fn put_bodies(out: &mut [u8], from: usize, a: Asdu) -> usize
     at
 }
 
+// The one address of a sequence; the answer is the place of the first object.
+fn put_first(out: &mut [u8], sequence: bool, first: u32) -> usize
+    ensures { λ r. ⌜ Put (now (out .entry)) 6 (addressOctets sequence first) r (now (out .exit)) ⌝ }
+{
+    if sequence {
+        laws::put_le3(out, 6, first);
+        return 9;
+    }
+    6
+}
+
 fn put_asdu(out: &mut [u8], a: Asdu) -> usize
     requires { ⌜ (length (asduOctets a) ≤ length (now out)) × (a .count ≤ 127) × (a .cause ≤ 63) ⌝ }
     ensures { λ r. ⌜ Put (now (out .entry)) 0 (asduOctets a) r (now (out .exit)) ⌝ }
 {
     put_header(out, a);
-    if a.sequence {
-        let head = a.objects[0];
-        laws::put_le3(out, 6, head.address);
-        return put_bodies(out, 9, a);
-    }
-    put_bodies(out, 6, a)
+    let head = a.objects[0];
+    let from = put_first(out, a.sequence, head.address);
+    put_bodies(out, from, a)
 }
 
 pub fn write_asdu(a: Asdu, out: &mut [u8]) -> WriteAnswer

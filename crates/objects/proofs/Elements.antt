@@ -14,6 +14,7 @@ use Rattle.laws.proofs.Lists.{octet-fits}
 use Rattle.laws.proofs.Numbers.{length-octets}
 use Rattle.elements.specs.Refusals.{octetIn}
 use Rattle.elements.specs.Quality.{qdsLayout, qdsOf, qdsOctet, seqQdLayout, seqQdOf, seqQdAnswer}
+use Rattle.elements.specs.declared.quality_descriptors.Qds.{Qds}
 use Rattle.elements.proofs.Promises.{octet-level}
 use Rattle.objects.specs.Kinds.{sizeOf, formOf, valueKind}
 use Rattle.objects.specs.Elements.{elementOf, elementOctets, valueRefusal}
@@ -52,10 +53,10 @@ unfolding elementOctets leOctets
 sized (MSpNa1 q) = refl
 sized (MDpNa1 q) = refl
 sized (MStNa1 v) = refl
-sized (MBoNa1 n q) = refl
+sized (MBoNa1 q n) = refl
 sized (MMeNa1 n q) = refl
 sized (MMeNb1 n q) = refl
-sized (MMeNc1 n q) = refl
+sized (MMeNc1 q n) = refl
 sized (MItNa1 n q) = refl
 sized (MMeNd1 n) = refl
 sized (MEiNa1 c) = refl
@@ -68,10 +69,10 @@ unfolding elementOf elementOctets valueRefusal
 back (MSpNa1 q) rest h r = ap MSpNa1 (octet-level .siq .back q refl)
 back (MDpNa1 q) rest h r = ap MDpNa1 (octet-level .diq .back q refl)
 back (MStNa1 v) rest h r = ap MStNa1 (octet-level .vti .back v r)
-back (MBoNa1 n q) rest h r = number-back MBoNa1 (leOf 4) qdsOf 4 n (qdsOctet q) rest (λ t. octet-level .bits32 .back n t h) (octet-level .qds .back q refl)
+back (MBoNa1 q n) rest h r = number-back (λ (n : ℕ) (q : Qds). MBoNa1 q n) (leOf 4) qdsOf 4 n (qdsOctet q) rest (λ t. octet-level .bits32 .back n t h) (octet-level .qds .back q refl)
 back (MMeNa1 n q) rest h r = number-back MMeNa1 (λ s. signedOf 16 (leOf 2 s)) qdsOf 2 (bitsOf 16 n) (qdsOctet q) rest (λ t. octet-level .i16 .back n t h) (octet-level .qds .back q refl)
 back (MMeNb1 n q) rest h r = number-back MMeNb1 (λ s. signedOf 16 (leOf 2 s)) qdsOf 2 (bitsOf 16 n) (qdsOctet q) rest (λ t. octet-level .i16 .back n t h) (octet-level .qds .back q refl)
-back (MMeNc1 n q) rest h r = number-back MMeNc1 (leOf 4) qdsOf 4 n (qdsOctet q) rest (λ t. octet-level .bits32 .back n t h) (octet-level .qds .back q refl)
+back (MMeNc1 q n) rest h r = number-back (λ (n : ℕ) (q : Qds). MMeNc1 q n) (leOf 4) qdsOf 4 n (qdsOctet q) rest (λ t. octet-level .bits32 .back n t h) (octet-level .qds .back q refl)
 back (MItNa1 n q) rest h r =
     number-back MItNa1 (λ s. signedOf 32 (leOf 4 s)) seqQdOf 4 (bitsOf 32 n) (octetIn (seqQdAnswer q)) rest (λ t. octet-level .i32 .back n t h)
     (octet-level .counter .back q r)

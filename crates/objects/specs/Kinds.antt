@@ -74,10 +74,10 @@ abbrev pub valueKind : Value → Kind
 valueKind (Value.MSpNa1 q) = MSpNa1
 valueKind (Value.MDpNa1 q) = MDpNa1
 valueKind (Value.MStNa1 v) = MStNa1
-valueKind (Value.MBoNa1 n q) = MBoNa1
+valueKind (Value.MBoNa1 q n) = MBoNa1
 valueKind (Value.MMeNa1 n q) = MMeNa1
 valueKind (Value.MMeNb1 n q) = MMeNb1
-valueKind (Value.MMeNc1 n q) = MMeNc1
+valueKind (Value.MMeNc1 q n) = MMeNc1
 valueKind (Value.MItNa1 n q) = MItNa1
 valueKind (Value.MMeNd1 n) = MMeNd1
 valueKind (Value.MEiNa1 c) = MEiNa1

@@ -18,10 +18,10 @@ abbrev pub Typed : Value → Type 0
 Typed (MSpNa1 q) = Unit {0}
 Typed (MDpNa1 q) = Unit {0}
 Typed (MStNa1 v) = Unit {0}
-Typed (MBoNa1 n q) = n < 4294967296
+Typed (MBoNa1 q n) = n < 4294967296
 Typed (MMeNa1 n q) = mag n < 32768
 Typed (MMeNb1 n q) = mag n < 32768
-Typed (MMeNc1 n q) = n < 4294967296
+Typed (MMeNc1 q n) = n < 4294967296
 Typed (MItNa1 n q) = mag n < 2147483648
 Typed (MMeNd1 n) = mag n < 32768
 Typed (MEiNa1 c) = Unit {0}

@@ -9,6 +9,7 @@ pub mod values;
 
 use elements::information_elements::Siq;
 use elements::information_elements::Spi;
+use elements::quality_descriptors::SeqQd;
 use elements::refusals::Refusal;
 use kinds::Kind;
 use values::Value;
@@ -24,7 +25,8 @@ pub enum ObjectAnswer {
     Refused(Refusal),
 }
 
-// Stands past the count of a record: address 0 and a clear SIQ.
+// Stands past the count of a record: address 0 and a clear SIQ. The value is a counter first, which fills all of its
+// memory: so each octet of a blank object is 0 there, and 127 of them are one fill of memory (decision 39).
 pub fn blank_object() -> Object
     ensures { λ r. ⌜ r ≡ blank ⌝ }
 {
@@ -35,10 +37,15 @@ pub fn blank_object() -> Object
         bl: false,
         spi: Spi::Off,
     };
-    Object {
-        address: 0,
-        value: Value::MSpNa1(siq),
-    }
+    let sqd = SeqQd {
+        iv: false,
+        ca: false,
+        cy: false,
+        seq: 0,
+    };
+    let mut value = Value::MItNa1(0, sqd);
+    value = Value::MSpNa1(siq);
+    Object { address: 0, value }
 }
 
 // An object with its own address, as the plain layout has it.

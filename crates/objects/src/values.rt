@@ -18,15 +18,16 @@ use elements::quality_descriptors::Qds;
 use elements::quality_descriptors::SeqQd;
 use elements::refusals::Refusal;
 
-// A bit string and an f32 are their 32 bits; the commands 100 and 101 are their octet.
+// A bit string and an f32 are their 32 bits; the commands 100 and 101 are their octet. The quality stands before
+// 32 bits: so a value takes 12 octets of memory and an object 16 (docs/DECISIONS.md, decision 39).
 pub enum Value {
     MSpNa1(Siq),
     MDpNa1(Diq),
     MStNa1(Vti),
-    MBoNa1(u32, Qds),
+    MBoNa1(Qds, u32),
     MMeNa1(i16, Qds),
     MMeNb1(i16, Qds),
-    MMeNc1(u32, Qds),
+    MMeNc1(Qds, u32),
     MItNa1(i32, SeqQd),
     MMeNd1(i16),
     MEiNa1(Coi),
@@ -81,10 +82,10 @@ pub fn read_element(s: &[u8], kind: Kind) -> Value
         Kind::MSpNa1 => Value::MSpNa1(Siq::from_byte(laws::octet_at(s, 0))),
         Kind::MDpNa1 => Value::MDpNa1(Diq::from_byte(laws::octet_at(s, 0))),
         Kind::MStNa1 => Value::MStNa1(Vti::from_byte(laws::octet_at(s, 0), laws::octet_at(s, 1))),
-        Kind::MBoNa1 => Value::MBoNa1(laws::le4(s, 0), quality_at(s, 4)),
+        Kind::MBoNa1 => Value::MBoNa1(quality_at(s, 4), laws::le4(s, 0)),
         Kind::MMeNa1 => Value::MMeNa1(i16_in(s), quality_at(s, 2)),
         Kind::MMeNb1 => Value::MMeNb1(i16_in(s), quality_at(s, 2)),
-        Kind::MMeNc1 => Value::MMeNc1(laws::le4(s, 0), quality_at(s, 4)),
+        Kind::MMeNc1 => Value::MMeNc1(quality_at(s, 4), laws::le4(s, 0)),
         Kind::MItNa1 => Value::MItNa1(i32_in(s), SeqQd::from_byte(laws::octet_at(s, 4))),
         Kind::MMeNd1 => Value::MMeNd1(i16_in(s)),
         Kind::MEiNa1 => Value::MEiNa1(Coi::from_byte(laws::octet_at(s, 0))),
@@ -136,10 +137,10 @@ pub fn put_element(out: &mut [u8], value: Value)
         Value::MSpNa1(siq) => laws::put_octet(out, 0, siq.to_byte()),
         Value::MDpNa1(diq) => laws::put_octet(out, 0, diq.to_byte()),
         Value::MStNa1(vti) => put_vti(out, vti),
-        Value::MBoNa1(bits, qds) => put_bits_and_octet(out, bits, qds.to_byte()),
+        Value::MBoNa1(qds, bits) => put_bits_and_octet(out, bits, qds.to_byte()),
         Value::MMeNa1(n, qds) => put_i16_and_quality(out, n, qds),
         Value::MMeNb1(n, qds) => put_i16_and_quality(out, n, qds),
-        Value::MMeNc1(bits, qds) => put_bits_and_octet(out, bits, qds.to_byte()),
+        Value::MMeNc1(qds, bits) => put_bits_and_octet(out, bits, qds.to_byte()),
         Value::MItNa1(n, sqd) => put_bits_and_octet(out, numbers::bits32(n), sqd.to_byte().octet()),
         Value::MMeNd1(n) => laws::put_le2(out, 0, numbers::bits16(n)),
         Value::MEiNa1(coi) => laws::put_octet(out, 0, coi.to_byte().octet()),

@@ -1,51 +1,54 @@
 -- `asdu::check::check_asdu` meets its contract. Assumes nothing.
+use Prim.Native.Nat.{ℕ, _/_, _%_}
 use mathlib.Core.Path.{sym, ap, _∙_}
 use borrow.Author.Needs.{needs}
+use lib.Dec.{eqb}
+use Rattle.laws.proofs.Lists.{octets-all}
 use Rattle.elements.specs.Refusals.{refusal}
-use Rattle.asdu.specs.Header.{headerNumber}
-use Rattle.asdu.specs.Reading.{readRefusal, refusalBy}
-use Rattle.asdu.specs.declared.header.HeaderAnswer.{HeaderAnswer}
+use Rattle.elements.proofs.Refused.{none, some}
+use Rattle.asdu.specs.Header.{headerRefusal}
+use Rattle.asdu.specs.Reading.{addressesRefusal}
+use Rattle.asdu.proofs.Checked.{refused-early, checked}
 use Rattle.asdu.proofs.check.check_asdu.Statement.{statement}
 use Rattle.asdu.proofs.check.check_asdu.Tie as tie
 
-read-header-requires : tie.Need-read-header-requires
-read-header-requires c κs = search needs
+header-refusal-requires : tie.Need-header-refusal-requires
+header-refusal-requires c κs = search needs
 
-enum-known-answer : tie.Need-enum-known-answer
-enum-known-answer c = search needs
-
-enum-told : tie.Need-enum-told
-enum-told c = search needs
-
-refusal-requires : tie.Need-refusal-requires
-refusal-requires c κs = search needs
+is-none-requires : tie.Need-is-none-requires
+is-none-requires c κs = search needs
 
 returns : tie.Need-returns
-unfolding readRefusal
 returns c =
-    let s = c .before .before .before .before .before .args .s .now in
-    let told = c .before .enum-told .given .1 in
-    let is = sym (c .before .before .before .read-header .ensures) ∙ told in
-    c .refusal .ensures ∙ (ap (λ (a : HeaderAnswer). refusal (headerNumber a)) told ∙ sym (ap (λ (a : HeaderAnswer). refusal (refusalBy a s)) is))
+    let s = c .before .before .before .before .args .s .now in
+    let is = c .before .before .header-refusal .ensures in
+    is ∙ ap refusal (sym (refused-early s (some (headerRefusal s) is (c .before .is-none .ensures) (c .if1 .taken))))
 
-objects-refusal-requires : tie.Need-objects-refusal-requires
-objects-refusal-requires c κs = search needs
+octet-at-requires : tie.Need-octet-at-requires
+octet-at-requires c κs = search needs
+
+cast-addresses-refusal : tie.Need-cast-addresses-refusal
+cast-addresses-refusal c = search needs
+
+addresses-refusal-requires : tie.Need-addresses-refusal-requires
+addresses-refusal-requires c κs = search needs
 
 returns-2 : tie.Need-returns-2
-unfolding readRefusal
 returns-2 c =
     let s = c .before .before .before .before .before .before .args .s .now in
-    let is = sym (c .before .before .before .before .read-header .ensures) ∙ c .before .before .answer .given .1 in
-    c .objects-refusal .ensures ∙ sym (ap (λ (a : HeaderAnswer). refusal (refusalBy a s)) is)
+    let no = none (headerRefusal s) (c .before .before .before .before .header-refusal .ensures) (c .before .before .before .is-none .ensures) (c .before .before .if1 .left) in
+    c .addresses-refusal .ensures
+    ∙ (ap (λ (o : ℕ). refusal (addressesRefusal (eqb (o / 128 % 2) 1) (o % 128) s)) (c .before .octet-at .ensures)
+    ∙ ap refusal (sym (checked s (octets-all s (λ i. c .before .before .before .before .before .shared-slice-known .given i .fits)) no)))
 
 pub check-asdu-spec : {M : Type 1} → statement M
 check-asdu-spec =
     tie.close
     (tie.spec
-    read-header-requires
-    enum-known-answer
-    enum-told
-    refusal-requires
+    header-refusal-requires
+    is-none-requires
     returns
-    objects-refusal-requires
+    octet-at-requires
+    cast-addresses-refusal
+    addresses-refusal-requires
     returns-2)

@@ -39,11 +39,11 @@ from-byte-requires-3 c κs = search needs
 enum-told-4 : tie.Need-enum-told-4
 enum-told-4 c = search needs
 
-le4-requires : tie.Need-le4-requires
-le4-requires c κs = search needs
-
 quality-at-requires : tie.Need-quality-at-requires
 quality-at-requires c κs = search needs
+
+le4-requires : tie.Need-le4-requires
+le4-requires c κs = search needs
 
 enum-told-5 : tie.Need-enum-told-5
 enum-told-5 c = search needs
@@ -66,11 +66,11 @@ quality-at-requires-3 c κs = search needs
 enum-told-7 : tie.Need-enum-told-7
 enum-told-7 c = search needs
 
-le4-requires-2 : tie.Need-le4-requires-2
-le4-requires-2 c κs = search needs
-
 quality-at-requires-4 : tie.Need-quality-at-requires-4
 quality-at-requires-4 c κs = search needs
+
+le4-requires-2 : tie.Need-le4-requires-2
+le4-requires-2 c κs = search needs
 
 enum-told-8 : tie.Need-enum-told-8
 enum-told-8 c = search needs
@@ -128,7 +128,7 @@ returns-3 c = rw (c .before .before .before .enum-told3 .given .1, c .from-byte3
 
 returns-4 : tie.Need-returns-4
 unfolding elementOf
-returns-4 c = rw (c .before .before .enum-told4 .given .1, c .before .le4 .ensures, c .quality-at .ensures)
+returns-4 c = rw (c .before .before .enum-told4 .given .1, c .before .quality-at .ensures, c .le4 .ensures)
 
 returns-5 : tie.Need-returns-5
 unfolding elementOf
@@ -144,7 +144,7 @@ returns-6 c =
 
 returns-7 : tie.Need-returns-7
 unfolding elementOf
-returns-7 c = rw (c .before .before .enum-told7 .given .1, c .before .le42 .ensures, c .quality-at4 .ensures)
+returns-7 c = rw (c .before .before .enum-told7 .given .1, c .before .quality-at4 .ensures, c .le42 .ensures)
 
 returns-8 : tie.Need-returns-8
 unfolding elementOf
@@ -189,8 +189,8 @@ read-element-spec =
     octet-at-requires-4
     from-byte-requires-3
     enum-told-4
-    le4-requires
     quality-at-requires
+    le4-requires
     enum-told-5
     i16-in-requires
     quality-at-requires-2
@@ -198,8 +198,8 @@ read-element-spec =
     i16-in-requires-2
     quality-at-requires-3
     enum-told-7
-    le4-requires-2
     quality-at-requires-4
+    le4-requires-2
     enum-told-8
     i32-in-requires
     octet-at-requires-5

@@ -22,10 +22,10 @@ unfolding valueRefusal
 none (MSpNa1 q) h = refl
 none (MDpNa1 q) h = refl
 none (MStNa1 v) h = absurd (miss others 2 tt h)
-none (MBoNa1 n q) h = refl
+none (MBoNa1 q n) h = refl
 none (MMeNa1 n q) h = refl
 none (MMeNb1 n q) h = refl
-none (MMeNc1 n q) h = refl
+none (MMeNc1 q n) h = refl
 none (MItNa1 n q) h = absurd (miss others 7 tt h)
 none (MMeNd1 n) h = refl
 none (MEiNa1 c) h = absurd (miss others 9 tt h)
