@@ -1,0 +1,4 @@
+pub mod Start
+pub mod Picking
+pub mod Topping
+pub mod Stepping
