@@ -7,8 +7,8 @@ use native.Mathlib.Omega.{arith}
 use native.Mathlib.Decide.{decLt}
 use borrow.Author.Tests.{eqb-true, ltb-false, lt-ltb, le-ltb}
 use lib.Dec.{eqb, ltb}
-use lib.ListN.{length, getD, take, length-append}
-use lib.Seq.{sets, sets-eq, length-sets, length-take-le, take-length, take-at, take-append-add}
+use lib.ListN.{length, getD, take, drop, length-append}
+use lib.Seq.{sets, sets-eq, length-sets, length-take-le, take-length, take-at, take-append-add, drop-append-add}
 use Rattle.laws.specs.Choice.{pick, _then_}
 use Rattle.elements.specs.Refusals.{refusal}
 use Rattle.elements.specs.declared.refusals.Refusal.{Refusal}
@@ -26,6 +26,15 @@ use Rattle.assembly.specs.declared.stepping.StepAnswer.{StepAnswer}
 use Rattle.assembly.specs.declared.stepping.StepAnswer.the-variants as StepAnswer
 use Rattle.assembly.proofs.Hands.{carry-fits}
 use Rattle.assembly.proofs.Sights.{Sight, few, part, whole, bad, few-more, view, frame-of, bad-of, more-few, first-whole, start-short}
+
+-- bytes stored behind the held ones
+stored : (carry : List ℕ) (held m : ℕ) (chunk : List ℕ) → held + m ≤ length carry → m ≤ length chunk
+    → take (held + m) (sets carry held (take m chunk)) ≡ take held carry ++ take m chunk
+stored carry held m chunk fits there =
+    let moved = take m chunk in
+    let long : length moved ≡ m = length-take-le m chunk there in
+    let front : length (take held carry) ≡ held = length-take-le held carry (omega arith) in
+    rw (sets-eq moved carry held (omega (arith, long))) (take-at (take held carry ++ moved) _ (held + m) (length-append (take held carry) moved ∙ omega arith))
 
 module _ (carry : List ℕ) (held : ℕ) (chunk : List ℕ) (room : 255 ≤ length carry) (count : held ≤ 255) where
   pub carry-good : carryRefusal (length carry) held ≡ 0
@@ -102,11 +111,7 @@ module _ (carry : List ℕ) (held : ℕ) (chunk : List ℕ) (room : 255 ≤ leng
   module _ (m : ℕ) (answer : topUpAnswer carry held chunk ≡ TopUpAnswer.Moved m) (fits : held + m ≤ 255) (there : m ≤ length chunk) where
     pub filled : take (held + m) (topped carry held chunk) ≡ take held carry ++ take m chunk
     unfolding topped
-    filled =
-        let moved = take m chunk in
-        let long : length moved ≡ m = length-take-le m chunk there in
-        let stored = sets-eq moved carry held (omega (arith, long)) in
-        rw (answer, stored) (take-at (take held carry ++ moved) _ (held + m) (length-append (take held carry) moved ∙ omega (arith, held-long, long)))
+    filled = rw answer (stored carry held m chunk (omega arith) there)
 
     pub topped-long : length (topped carry held chunk) ≡ length carry
     unfolding topped
@@ -126,6 +131,12 @@ module _ (carry : List ℕ) (held : ℕ) (chunk : List ℕ) (room : 255 ≤ leng
   after a e = ap (afterTopUp carry held chunk) answer ∙ ap (afterMoved m) e
 
 module _ (carry : List ℕ) (held : ℕ) (chunk : List ℕ) (room : 255 ≤ length carry) (count : held ≤ 255) (more : startAnswer (take held carry) ≡ More) where
+  -- the first bytes on hand are the held ones and then the chunk's
+  first-part : (n : ℕ) → held ≤ n → take held carry ++ take (n - held) chunk ≡ take n (onHand carry held chunk)
+  first-part n h =
+      let e : length (take held carry) + (n - held) ≡ n = omega (arith, held-long carry held chunk room count) in
+      sym (take-append-add (take held carry) chunk (n - held)) ∙ ap (λ (k : ℕ). take k (onHand carry held chunk)) e
+
   -- all of the chunk is moved, and more is needed
   pub after-more : startAnswer (onHand carry held chunk) ≡ More → afterTopUp carry held chunk (topUpAnswer carry held chunk) ≡ StepAnswer.More (length chunk)
   after-more e =
@@ -157,12 +168,6 @@ module _ (carry : List ℕ) (held : ℕ) (chunk : List ℕ) (room : 255 ≤ leng
       let carried : startAnswer (take held carry ++ take (n - held) chunk) ≡ Whole n = ap (λ (s : List ℕ). startAnswer s) all ∙ first-whole (onHand carry held chunk) n e in
       after carry held chunk room count (n - held) answer fits there (PickAnswer.Carry n)
       (pick-again carry held chunk room count (n - held) answer fits there ∙ rw (some, carried))
-    where
-      first-part : (n : ℕ) → held ≤ n → take held carry ++ take (n - held) chunk ≡ take n (onHand carry held chunk)
-      first-part n h =
-          let l = held-long carry held chunk room count in
-          let e : length (take held carry) + (n - held) ≡ n = omega (arith, l) in
-          sym (take-append-add (take held carry) chunk (n - held)) ∙ ap (λ (k : ℕ). take k (onHand carry held chunk)) e
 
   pub after-refused : (r : Refusal) → startAnswer (onHand carry held chunk) ≡ Refused r → afterTopUp carry held chunk (topUpAnswer carry held chunk) ≡ StepAnswer.Refused r
   after-refused r e = ap (afterTopUp carry held chunk) (top-refused carry held chunk room count r e)
@@ -209,6 +214,39 @@ module _ (carry : List ℕ) (held : ℕ) (chunk : List ℕ) (room : 255 ≤ leng
         let c : startAnswer chunk ≡ Refused r = sym (ap (λ (k : ℕ). startAnswer (onHand carry k chunk)) z) ∙ e in
         step-by (PickAnswer.Refused r) (pick-by carry held chunk room count ∙ rw (z, c))
   ]
+
+  -- ---- the carry after a step
+
+  pub carry-after : (a : StepAnswer) → stepAnswer carry held chunk ≡ a → stepCarry carry held chunk ≡ sets carry held (take (stepMoved a) chunk)
+  unfolding stepCarry
+  carry-after a e = ap (λ (b : StepAnswer). sets carry held (take (stepMoved b) chunk)) e
+
+  pub carry-long : length (stepCarry carry held chunk) ≡ length carry
+  unfolding stepCarry
+  carry-long = length-sets carry held (take (stepMoved (stepAnswer carry held chunk)) chunk)
+
+  -- it holds all that was on hand, and it still needs more
+  pub holds-all : startAnswer (onHand carry held chunk) ≡ More → (take (held + length chunk) (stepCarry carry held chunk) ≡ onHand carry held chunk) × (held + length chunk ≤ 255)
+  holds-all e =
+      let fits : held + length chunk ≤ 255 = omega (arith, more-few _ _ _ e, hand-long carry held chunk room count) in
+      (rw (carry-after (StepAnswer.More (length chunk)) (step-more e)) (stored carry held (length chunk) chunk (omega arith) (omega arith) ∙ ap (λ (s : List ℕ). take held carry ++ s) (take-length chunk)), fits)
+
+  -- it holds the frame, and the rest of the chunk follows the frame
+  pub holds-frame : (n : ℕ) → 0 < held → startAnswer (onHand carry held chunk) ≡ Whole n
+      → (take n (stepCarry carry held chunk) ≡ take n (onHand carry held chunk)) × (drop (n - held) chunk ≡ drop n (onHand carry held chunk))
+  holds-frame n some e =
+      let f = frame-of _ _ _ n e in
+      let l = held-long carry held chunk room count in
+      let short : held < n = omega (arith, start-short (take held carry) chunk n more e, l) in
+      let sum : held + (n - held) ≡ n = omega arith in
+      let there : n - held ≤ length chunk = omega (arith, f .there, hand-long carry held chunk room count) in
+      let fits : held + (n - held) ≤ length carry = omega (arith, f .size, f .shape .most) in
+      let behind : length (take held carry) + (n - held) ≡ n = omega (arith, l) in (
+        ap (λ (k : ℕ). take k (stepCarry carry held chunk)) (sym sum)
+            ∙ (ap (take (held + (n - held))) (carry-after (StepAnswer.Carry (n - held) n) (step-carry n some e))
+            ∙ (stored carry held (n - held) chunk fits there ∙ first-part n (omega arith))),
+        sym (drop-append-add (take held carry) chunk (n - held)) ∙ ap (λ (k : ℕ). drop k (onHand carry held chunk)) behind,
+      )
 
 -- ---- a step as the code comes to it
 

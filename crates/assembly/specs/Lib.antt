@@ -2,3 +2,4 @@ pub mod Start
 pub mod Picking
 pub mod Topping
 pub mod Stepping
+pub mod Streams
