@@ -6,6 +6,8 @@
 //     plainasdu HEX     the same of an ASDU
 //     rewrite HEX       the bytes of writing the reading of the frame
 //     rewriteasdu HEX   the same of an ASDU
+//     topup HEX HEX     moved N: topping up a carry of 255 bytes that holds the first HEX, the second is the chunk
+//     pick HEX HEX      carry N, chunk N or more: where the next frame is, and how long it is
 //
 // or `refused N`, by document 01's number. `-` stands for an empty HEX, a mark is 0 or 1, other numbers are decimal.
 // Any other line is `bad`.
@@ -13,6 +15,7 @@ mod answers;
 mod asdus;
 mod frames;
 mod hex;
+mod streams;
 mod text;
 mod values;
 
@@ -55,16 +58,28 @@ fn put_answer(out: &mut [u8], command: &[u8], given: &[u8]) -> usize {
     answers::put_bad(out)
 }
 
-// A command and its octets, with one space between.
-fn answer(out: &mut [u8], line: &[u8]) -> usize {
-    let space = text::find(line, b' ');
-    let digits = laws::part_from(line, std::num::wrapping_add_usize(space, 1));
+// The octets of a command that has them in one text.
+fn answer_octets(out: &mut [u8], command: &[u8], digits: &[u8]) -> usize {
     let mut octets = [0u8; OCTETS_SIZE];
     let taken = hex::take_octets(digits, &mut octets);
     let HexAnswer::Octets(n) = taken else {
         return answers::put_bad(out);
     };
-    put_answer(out, text::part_to(line, space), text::part_to(&octets, n))
+    put_answer(out, command, text::part_to(&octets, n))
+}
+
+// A command and what it is given, with one space between.
+fn answer(out: &mut [u8], line: &[u8]) -> usize {
+    let space = text::find(line, b' ');
+    let command = text::part_to(line, space);
+    let given = laws::part_from(line, std::num::wrapping_add_usize(space, 1));
+    if check::same(command, b"topup") {
+        return streams::put_topped(out, given);
+    }
+    if check::same(command, b"pick") {
+        return streams::put_picked(out, given);
+    }
+    answer_octets(out, command, given)
 }
 
 // A line that is longer than its buffer is bad.

@@ -1,6 +1,7 @@
--- The promises of the ASDU level and of the frame level, each together. Assumes nothing.
+-- The promises of the ASDU level, of the frame level and of assembling, each together. Assumes nothing.
 use Rattle.promises.specs.Asdus.{AsduLevel}
 use Rattle.promises.specs.Frames.{FrameLevel}
+use Rattle.promises.specs.Streams.{StreamLevel}
 use Rattle.promises.proofs.ReadBack.{reads-back}
 use Rattle.promises.proofs.WriteAgain.{writes-again}
 use Rattle.promises.proofs.Tells.{tells}
@@ -9,9 +10,14 @@ use Rattle.promises.proofs.Answered.{answers}
 use Rattle.promises.proofs.FrameBack.{frame-reads-back}
 use Rattle.promises.proofs.FrameAgain.{frame-writes-again}
 use Rattle.promises.proofs.FrameTells.{frame-tells}
+use Rattle.promises.proofs.CutFree.{cut-independent, in-place}
+use Rattle.promises.proofs.Cuts.{cuts}
 
 pub asdu-level : AsduLevel
 asdu-level = record { back = reads-back; again = writes-again; tells = tells; accepts = accepts; answers = answers }
 
 pub frame-level : FrameLevel
 frame-level = record { back = frame-reads-back; again = frame-writes-again; tells = frame-tells }
+
+pub stream-level : StreamLevel
+stream-level = record { cut = cut-independent; cuts = cuts; uncopied = in-place }

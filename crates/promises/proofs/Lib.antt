@@ -8,4 +8,6 @@ pub mod FrameBack
 pub mod FrameAgain
 pub mod FrameTells
 pub mod FrameCases
+pub mod CutFree
+pub mod Cuts
 pub mod All

@@ -1,3 +1,4 @@
 pub mod Asdus
 pub mod Frames
 pub mod Cases
+pub mod Streams

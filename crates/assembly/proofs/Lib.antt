@@ -1,0 +1,4 @@
+pub mod Hands
+pub mod Sights
+pub mod Moves
+pub mod Steps

@@ -1,0 +1,5 @@
+pub mod Start
+pub mod Picking
+pub mod Topping
+pub mod Stepping
+pub mod Streams

@@ -1,0 +1,45 @@
+-- "Picking only reads: the next frame is a part of the carry if the carry holds anything, else of the chunk, or the answer is
+-- more; more and a refusal have the empty part" (document 01). The carry holds the first `held` bytes of its buffer.
+use Prim.Native.Nat.{ℕ}
+use mathlib.Core.List.{List, []}
+use lib.ListN.{length, take}
+use lib.Dec.{ltb, eqb}
+use Rattle.laws.specs.Choice.{pick}
+use Rattle.elements.specs.Refusals.{refusal}
+use Rattle.assembly.specs.Start.{startAnswer, carryRefusal}
+use Rattle.assembly.specs.declared.start.StartAnswer.{StartAnswer}
+use Rattle.assembly.specs.declared.start.StartAnswer.the-variants as StartAnswer
+use Rattle.assembly.specs.declared.picking.PickAnswer.{PickAnswer}
+use Rattle.assembly.specs.declared.picking.PickAnswer.the-variants.{Carry, Chunk, More, Refused}
+
+abbrev pub fromCarry : StartAnswer → PickAnswer
+fromCarry (StartAnswer.Whole n) = Carry n
+fromCarry StartAnswer.More = More
+fromCarry (StartAnswer.Refused r) = Refused r
+
+abbrev pub fromChunk : StartAnswer → PickAnswer
+fromChunk (StartAnswer.Whole n) = Chunk n
+fromChunk StartAnswer.More = More
+fromChunk (StartAnswer.Refused r) = Refused r
+
+unfoldable pub pickAnswer : List ℕ → ℕ → List ℕ → PickAnswer
+pickAnswer carry held chunk =
+    pick (eqb (carryRefusal (length carry) held) 0)
+    (pick (ltb 0 held) (fromCarry (startAnswer (take held carry))) (fromChunk (startAnswer chunk)))
+    (Refused (refusal (carryRefusal (length carry) held)))
+
+-- an answer's number, 0 where there is a frame or more is needed, and its part
+abbrev pub pickNumber : PickAnswer → ℕ
+pickNumber (Carry n) = 0
+pickNumber (Chunk n) = 0
+pickNumber More = 0
+pickNumber (Refused r) = r .0
+
+abbrev pub partBy : PickAnswer → List ℕ → List ℕ → List ℕ
+partBy (Carry n) carry chunk = take n carry
+partBy (Chunk n) carry chunk = take n chunk
+partBy More carry chunk = []
+partBy (Refused r) carry chunk = []
+
+unfoldable pub pickPart : List ℕ → ℕ → List ℕ → List ℕ
+pickPart carry held chunk = partBy (pickAnswer carry held chunk) carry chunk
