@@ -2,3 +2,4 @@ pub mod Asdus
 pub mod Frames
 pub mod Cases
 pub mod Streams
+pub mod Settled
