@@ -10,4 +10,5 @@ pub mod FrameTells
 pub mod FrameCases
 pub mod CutFree
 pub mod Cuts
+pub mod Parts
 pub mod All
