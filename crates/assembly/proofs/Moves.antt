@@ -8,13 +8,12 @@ use lib.Dec.{eqb, ltb}
 use lib.ListN.{length, getD, take, length-take}
 use lib.Seq.{sets}
 use borrow.Author.Tests.{eqb-true, ltb-true}
-use Rattle.laws.specs.Choice.{pick, _then_}
+use Rattle.laws.specs.Choice.{pick}
 use Rattle.laws.proofs.Choices.{both}
 use Rattle.elements.specs.Refusals.{refusal}
 use Rattle.elements.specs.declared.refusals.Refusal.{Refusal}
 use Rattle.assembly.specs.Start.{startRefusal, carryRefusal}
 use Rattle.assembly.specs.Topping.{onHand, topUpRefusal, moving, topUpAnswer, topped}
-use Rattle.assembly.specs.declared.topping.TopUpAnswer.{TopUpAnswer}
 use Rattle.assembly.specs.declared.topping.TopUpAnswer.the-variants.{Moved, Refused}
 use Rattle.assembly.proofs.Sights.{taken}
 use Rattle.assembly.proofs.Hands.{carry-fits}

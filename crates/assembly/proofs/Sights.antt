@@ -2,19 +2,17 @@
 use Prim.Native.Nat.{ℕ, _+_, _<_, _≤_}
 use mathlib.Core.Path.{_≡_, refl, sym, ap, _∙_}
 use mathlib.Core.Bool.{Bool, true, false}
-use mathlib.Core.List.{List, [], _++_}
+use mathlib.Core.List.{List, _++_}
 use native.Mathlib.Omega.{arith}
 use native.Mathlib.Decide.{decLt}
 use borrow.Author.Tests.{eqb-true, ltb-true, ltb-false, lt-ltb, le-ltb}
 use lib.Dec.{eqb, ltb}
 use lib.ListN.{length, getD, take, length-append, List·getD-append}
 use lib.Seq.{getD-take, length-take-le}
-use Rattle.laws.specs.Choice.{pick}
 use Rattle.laws.proofs.Choices.{passed, held}
 use Rattle.elements.specs.Refusals.{refusal}
 use Rattle.elements.specs.declared.refusals.Refusal.{Refusal}
 use Rattle.assembly.specs.Start.{startRefusal, sight, startAnswer}
-use Rattle.assembly.specs.declared.start.StartAnswer.{StartAnswer}
 use Rattle.assembly.specs.declared.start.StartAnswer.the-variants.{Whole, More, Refused}
 
 -- ---- by the number of bytes, the first and L

@@ -12,6 +12,7 @@ use Rattle.promises.proofs.FrameAgain.{frame-writes-again}
 use Rattle.promises.proofs.FrameTells.{frame-tells}
 use Rattle.promises.proofs.CutFree.{cut-independent, in-place}
 use Rattle.promises.proofs.Cuts.{cuts}
+use Rattle.promises.proofs.Parts.{hands-back}
 
 pub asdu-level : AsduLevel
 asdu-level = record { back = reads-back; again = writes-again; tells = tells; accepts = accepts; answers = answers }
@@ -20,4 +21,4 @@ pub frame-level : FrameLevel
 frame-level = record { back = frame-reads-back; again = frame-writes-again; tells = frame-tells }
 
 pub stream-level : StreamLevel
-stream-level = record { cut = cut-independent; cuts = cuts; uncopied = in-place }
+stream-level = record { cut = cut-independent; cuts = cuts; uncopied = in-place; part = hands-back }

@@ -11,15 +11,15 @@ use lib.Seq.{take-append-le, drop-append-le}
 use Rattle.elements.specs.declared.refusals.Refusal.{Refusal}
 use Rattle.assembly.specs.Start.{startAnswer}
 use Rattle.assembly.specs.Topping.{onHand}
-use Rattle.assembly.specs.Stepping.{stepAnswer, stepCarry}
-use Rattle.assembly.specs.Streams.{rest, refused, Outcome, ended, handed, outcomeBy, streamFrom, stream, joined}
+use Rattle.assembly.specs.Stepping.{stepCarry}
+use Rattle.assembly.specs.Streams.{rest, refused, ended, handed, outcomeBy, streamFrom, stream, joined}
 use Rattle.assembly.specs.declared.start.StartAnswer.{StartAnswer}
 use Rattle.assembly.specs.declared.start.StartAnswer.the-variants.{Whole, More, Refused}
 use Rattle.assembly.specs.declared.stepping.StepAnswer.{StepAnswer}
 use Rattle.assembly.specs.declared.stepping.StepAnswer.the-variants as StepAnswer
 use Rattle.assembly.proofs.Sights.{few-more, frame-of, bad-of, longer-whole, longer-refused, start-short}
 use Rattle.assembly.proofs.Steps.{Needing, held-long, step-chunk, step-carry, step-more, step-refused, carry-after, carry-long, holds-all, holds-frame}
-use Rattle.promises.specs.Streams.{runBy, runFrom, steps, run, CutIndependent, Uncopied, InPlace}
+use Rattle.promises.specs.Streams.{runBy, runFrom, steps, run, CutIndependent, InPlace}
 
 -- ---- a stream by what stands at its start
 

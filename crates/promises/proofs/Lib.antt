@@ -10,5 +10,6 @@ pub mod FrameTells
 pub mod FrameCases
 pub mod CutFree
 pub mod Cuts
+pub mod Parts
 pub mod OneAnswer
 pub mod All

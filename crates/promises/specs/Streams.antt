@@ -5,7 +5,8 @@ use mathlib.Core.List.{List, [], _∷_, _++_}
 use lib.ListN.{length, getD, take, drop}
 use Rattle.elements.specs.Refusals.{refusal}
 use Rattle.assembly.specs.Start.{startAnswer}
-use Rattle.assembly.specs.Stepping.{stepAnswer, stepCarry}
+use Rattle.assembly.specs.Picking.{pickPart}
+use Rattle.assembly.specs.Stepping.{stepAnswer, stepMoved, stepCarry}
 use Rattle.assembly.specs.Streams.{End, rest, refused, Outcome, ended, handed, stream, joined}
 use Rattle.assembly.specs.declared.start.StartAnswer.the-variants as StartAnswer
 use Rattle.assembly.specs.declared.stepping.StepAnswer.{StepAnswer}
@@ -82,9 +83,19 @@ pub record Uncopied (carry chunk : List ℕ) (n : ℕ) : Type 0 where
 abbrev pub InPlace : Type 0
 InPlace = (carry chunk : List ℕ) (n : ℕ) → 255 ≤ length carry → startAnswer chunk ≡ StartAnswer.Whole n → Uncopied carry chunk n
 
+-- ---- the part
+
+-- after a step that tells of a frame, picking hands that frame back: the first n bytes of what was on hand, the held ones and
+-- then the chunk
+abbrev pub HandsBack : Type 0
+HandsBack = (carry : List ℕ) (held : ℕ) (chunk : List ℕ) (n : ℕ)
+    → 255 ≤ length carry → held ≤ 255 → startAnswer (take held carry) ≡ StartAnswer.More → startAnswer (take held carry ++ chunk) ≡ StartAnswer.Whole n
+    → pickPart (stepCarry carry held chunk) (held + stepMoved (stepAnswer carry held chunk)) chunk ≡ take n (take held carry ++ chunk)
+
 -- ---- all of it
 
 pub record StreamLevel : Type 0 where
   pub cut : CutIndependent
   pub cuts : (s : List ℕ) → Cuts s
   pub uncopied : InPlace
+  pub part : HandsBack

@@ -1,11 +1,10 @@
 -- `assembly::start::try_frame` meets its contract. Assumes nothing.
-use mathlib.Core.Path.{sym, _∙_}
 use native.Mathlib.Omega.{arith}
 use borrow.Author.Needs.{needs}
 use borrow.Author.Tests.{lt-ltb, le-ltb}
 use Rattle.laws.proofs.Tests.{tests}
 use Rattle.elements.proofs.Refused.{none, some}
-use Rattle.assembly.specs.Start.{startRefusal, sight}
+use Rattle.assembly.specs.Start.{sight}
 use Rattle.assembly.proofs.start.try_frame.Statement.{statement}
 use Rattle.assembly.proofs.start.try_frame.Tie as tie
 

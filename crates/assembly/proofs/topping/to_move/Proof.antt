@@ -1,5 +1,5 @@
 -- `assembly::topping::to_move` meets its contract. Assumes nothing.
-use mathlib.Core.Path.{sym, ap, _∙_}
+use mathlib.Core.Path.{sym, _∙_}
 use borrow.Author.Needs.{needs}
 use Rattle.assembly.specs.Topping.{moving}
 use Rattle.assembly.proofs.topping.to_move.Statement.{statement}

@@ -1,0 +1,47 @@
+-- After a step that tells of a frame, picking hands that frame back. Assumes nothing.
+use Prim.Native.Nat.{ℕ, _+_, _<_, _≤_}
+use mathlib.Core.Path.{_≡_, sym, ap, _∙_}
+use mathlib.Core.List.{List}
+use native.Mathlib.Omega.{arith}
+use native.Mathlib.Decide.{decLt}
+use borrow.Author.Tests.{lt-ltb}
+use lib.ListN.{length, take}
+use Rattle.assembly.specs.Start.{startAnswer}
+use Rattle.assembly.specs.Picking.{partBy, pickAnswer, pickPart}
+use Rattle.assembly.specs.Topping.{onHand}
+use Rattle.assembly.specs.Stepping.{stepMoved, stepCarry}
+use Rattle.assembly.specs.declared.start.StartAnswer.the-variants.{Whole}
+use Rattle.assembly.specs.declared.picking.PickAnswer.{PickAnswer}
+use Rattle.assembly.specs.declared.picking.PickAnswer.the-variants as PickAnswer
+use Rattle.assembly.specs.declared.stepping.StepAnswer.{StepAnswer}
+use Rattle.assembly.proofs.Sights.{frame-of, first-whole, start-short}
+use Rattle.assembly.proofs.Steps.{held-long, pick-by, step-chunk, step-carry, carry-long, holds-frame}
+use Rattle.promises.specs.Streams.{HandsBack}
+
+part-of : (carry : List ℕ) (held : ℕ) (chunk : List ℕ) (a : PickAnswer) → pickAnswer carry held chunk ≡ a → pickPart carry held chunk ≡ partBy a carry chunk
+unfolding pickPart
+part-of carry held chunk a e = ap (λ (p : PickAnswer). partBy p carry chunk) e
+
+pub hands-back : HandsBack
+hands-back carry held chunk n room count more e = elim (decLt 0 held) [
+  | yes some ↦
+      let after = stepCarry carry held chunk in
+      let f = frame-of _ _ _ n e in
+      let short : held < n = omega (arith, start-short (take held carry) chunk n more e, held-long carry held chunk room count) in
+      let frame : take n after ≡ take n (onHand carry held chunk) = holds-frame carry held chunk room count more n some e .0 in
+      let whole : startAnswer (take n after) ≡ Whole n = ap (λ (s : List ℕ). startAnswer s) frame ∙ first-whole (onHand carry held chunk) n e in
+      let roomy : 255 ≤ length after = omega (arith, carry-long carry held chunk room count more) in
+      let picked : pickAnswer after n chunk ≡ PickAnswer.Carry n =
+      pick-by after n chunk roomy (omega (arith, f .size, f .shape .most)) ∙ rw (lt-ltb 0 n (omega arith), whole) in
+      ap (λ (a : StepAnswer). pickPart after (held + stepMoved a) chunk) (step-carry carry held chunk room count more n some e)
+      ∙ (ap (λ (k : ℕ). pickPart after k chunk) (omega arith) ∙ (part-of after n chunk (PickAnswer.Carry n) picked ∙ frame))
+  | no none ↦
+      let after = stepCarry carry held chunk in
+      let z : held ≡ 0 = omega arith in
+      let same : onHand carry held chunk ≡ chunk = ap (λ (k : ℕ). onHand carry k chunk) z in
+      let whole : startAnswer chunk ≡ Whole n = sym (ap (λ (s : List ℕ). startAnswer s) same) ∙ e in
+      let roomy : 255 ≤ length after = omega (arith, carry-long carry held chunk room count more) in
+      let picked : pickAnswer after 0 chunk ≡ PickAnswer.Chunk n = pick-by after 0 chunk roomy (omega arith) ∙ rw whole in
+      ap (λ (a : StepAnswer). pickPart after (held + stepMoved a) chunk) (step-chunk carry held chunk room count more n z whole)
+      ∙ (ap (λ (k : ℕ). pickPart after k chunk) (omega arith) ∙ (part-of after 0 chunk (PickAnswer.Chunk n) picked ∙ ap (take n) (sym same)))
+]
