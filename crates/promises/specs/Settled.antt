@@ -17,8 +17,8 @@ pub record Form {R : Type 0} (result : R) (lent : List (List ℕ)) (more : Left 
   pub besides : more x
 
 -- no two satisfy it
-abbrev pub Settles : {R : Type 0} → (Left R → Type 0) → Type 1
+abbrev pub Settles : {R : Type 0} → (Left R → Type 0) → Type 0
 Settles {R} contract = (x y : Left R) → contract x → contract y → x ≡ y
 
 abbrev pub FormSettles : Type 1
-FormSettles = {R : Type 0} (result : R) (lent : List (List ℕ)) (more : Left R → Type 0) → Settles (Form result lent more)
+FormSettles = (R : Type 0) (result : R) (lent : List (List ℕ)) (more : Left R → Type 0) → Settles (Form result lent more)
