@@ -1,0 +1,4 @@
+pub mod Frames
+pub mod Making
+pub mod Events
+pub mod Contracts

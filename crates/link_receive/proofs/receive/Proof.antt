@@ -1,0 +1,53 @@
+-- `link_receive::receive` meets its contract. Assumes nothing.
+use mathlib.Core.Path.{_≡_, sym, _∙_}
+use lib.ListN.{length, length-map}
+use Rattle.elements.proofs.Refused.{none}
+use Rattle.link.specs.Events.{frame, eventOutcome}
+use Rattle.link_steps.proofs.Calls.{opened, few-unconfirmed, call-refused, call-does}
+use borrow.Author.Needs.{needs}
+use Rattle.link_receive.proofs.receive.Statement.{statement}
+use Rattle.link_receive.proofs.receive.Tie as tie
+
+check-call-requires : tie.Need-check-call-requires
+check-call-requires c κs = search needs
+
+is-none-requires : tie.Need-is-none-requires
+is-none-requires c κs = search needs
+
+returns : tie.Need-returns
+returns c =
+    let s = c .before .before .before .before .before .before in
+    let r = call-refused (frame (s .args .f .now) (s .args .more)) (s .args .l) (s .args .pool .now) (s .args .out .now) (s .args .moment) (c .before .before .check-call .ensures) (c .before .is-none .ensures) (c .if1 .taken) in
+    (r .0, r .2)
+
+slice-aggregate-on-frame : tie.Need-slice-aggregate-on-frame
+slice-aggregate-on-frame c = search needs
+
+on-frame-requires : tie.Need-on-frame-requires
+on-frame-requires c κs =
+    let s = c .before .before .before .before .before .before .before .before .before .before in
+    let passes = none _ (c .before .before .before .before .before .before .check-call .ensures) (c .before .before .before .before .before .is-none .ensures) (c .before .before .before .before .if1 .left) in
+    let long : length (s .args .l .times) ≡ 32 = sym (length-map (s .args .l .times) _) ∙ s .good .0 .1 .1 .0 .1 .0 .1 in
+    (opened (s .args .l) (length (s .args .out .now)) (length (s .args .pool .now)) (s .args .moment) passes long, few-unconfirmed (s .args .l) (length (s .args .out .now)) (length (s .args .pool .now)) (s .args .moment) passes)
+
+same-length : tie.Need-same-length
+same-length c = c .before .before .before .before .on-frame .kept .1 .1 .1 .0
+
+returns-2 : tie.Need-returns-2
+unfolding eventOutcome
+returns-2 c =
+    let s = c .before .before .before .before .before .before .before .before .before .before .before .before .before .before .before in
+    let passes = none _ (c .before .before .before .before .before .before .before .before .before .before .before .check-call .ensures) (c .before .before .before .before .before .before .before .before .before .before .is-none .ensures) (c .before .before .before .before .before .before .before .before .before .if1 .left) in
+    call-does (frame (s .args .f .now) (s .args .more)) (s .args .l) (s .args .pool .now) (s .args .out .now) (s .args .moment) passes (c .before .before .before .before .on-frame .ensures)
+
+pub receive-spec : {M : Type 1} → statement M
+receive-spec =
+    tie.close
+    (tie.spec
+    check-call-requires
+    is-none-requires
+    returns
+    slice-aggregate-on-frame
+    on-frame-requires
+    same-length
+    returns-2)

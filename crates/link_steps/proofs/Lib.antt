@@ -1,0 +1,5 @@
+pub mod Stored
+pub mod Made
+pub mod Flushing
+pub mod Unchanged
+pub mod Calls

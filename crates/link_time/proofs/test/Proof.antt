@@ -1,0 +1,49 @@
+-- `link_time::test` meets its contract. Assumes nothing.
+use lib.ListN.{length}
+use Rattle.elements.proofs.Refused.{none}
+use Rattle.link.specs.Events.{test, eventOutcome}
+use Rattle.link_steps.proofs.Unchanged.{test-times, does-same}
+use Rattle.link_steps.proofs.Calls.{calm, call-refused, call-does}
+use borrow.Author.Needs.{needs}
+use Rattle.link_time.proofs.test.Statement.{statement}
+use Rattle.link_time.proofs.test.Tie as tie
+
+check-call-requires : tie.Need-check-call-requires
+check-call-requires c κs = search needs
+
+is-none-requires : tie.Need-is-none-requires
+is-none-requires c κs = search needs
+
+returns : tie.Need-returns
+returns c =
+    let s = c .before .before .before .before .before in
+    let r = call-refused test (s .args .l) (s .args .pool .now) (s .args .out .now) (s .args .moment) (c .before .before .check-call .ensures) (c .before .is-none .ensures) (c .if1 .taken) in
+    (r .0, r .2)
+
+on-test-requires : tie.Need-on-test-requires
+on-test-requires c κs =
+    let s = c .before .before .before .before .before .before .before .before in
+    calm (s .args .l) (length (s .args .out .now)) (length (s .args .pool .now)) (s .args .moment) (none _ (c .before .before .before .before .before .check-call .ensures) (c .before .before .before .before .is-none .ensures) (c .before .before .before .if1 .left))
+
+same-length : tie.Need-same-length
+same-length c = c .before .before .before .on-test .kept .1 .0
+
+returns-2 : tie.Need-returns-2
+unfolding eventOutcome
+returns-2 c =
+    let s = c .before .before .before .before .before .before .before .before .before .before .before .before in
+    let l = s .args .l in
+    let pool = s .args .pool .now in
+    let passes = none _ (c .before .before .before .before .before .before .before .before .before .check-call .ensures) (c .before .before .before .before .before .before .before .before .is-none .ensures) (c .before .before .before .before .before .before .before .if1 .left) in
+    call-does test (s .args .l) (s .args .pool .now) (s .args .out .now) (s .args .moment) passes (does-same (c .before .before .before .on-test .ensures (l .times) pool) (test-times (l .state) (l .times) pool (s .args .moment)))
+
+pub test-spec : {M : Type 1} → statement M
+test-spec =
+    tie.close
+    (tie.spec
+    check-call-requires
+    is-none-requires
+    returns
+    on-test-requires
+    same-length
+    returns-2)
