@@ -1,0 +1,8 @@
+pub mod Good
+pub mod Sizes
+pub mod Kept
+pub mod Pool
+pub mod Pieces
+pub mod Meaning
+pub mod Runs
+pub mod Effects
