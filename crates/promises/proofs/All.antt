@@ -1,7 +1,8 @@
--- The promises of the ASDU level, of the frame level and of assembling, each together. Assumes nothing.
+-- The promises of the ASDU level, of the frame level, of assembling and of the link, each together. Assumes nothing.
 use Rattle.promises.specs.Asdus.{AsduLevel}
 use Rattle.promises.specs.Frames.{FrameLevel}
 use Rattle.promises.specs.Streams.{StreamLevel}
+use Rattle.promises.specs.Demand3.{Demand3Level}
 use Rattle.promises.proofs.ReadBack.{reads-back}
 use Rattle.promises.proofs.WriteAgain.{writes-again}
 use Rattle.promises.proofs.Tells.{tells}
@@ -13,6 +14,10 @@ use Rattle.promises.proofs.FrameTells.{frame-tells}
 use Rattle.promises.proofs.CutFree.{cut-independent, in-place}
 use Rattle.promises.proofs.Cuts.{cuts}
 use Rattle.promises.proofs.Parts.{hands-back}
+use Rattle.promises.proofs.Demand3.{demand-3}
+use Rattle.promises.proofs.Demand3Runs.{covers, goes-on}
+use Rattle.promises.proofs.Demand3Shown.{shows}
+use Rattle.promises.proofs.Demand3Reach.{reaches}
 
 pub asdu-level : AsduLevel
 asdu-level = record { back = reads-back; again = writes-again; tells = tells; accepts = accepts; answers = answers }
@@ -22,3 +27,6 @@ frame-level = record { back = frame-reads-back; again = frame-writes-again; tell
 
 pub stream-level : StreamLevel
 stream-level = record { cut = cut-independent; cuts = cuts; uncopied = in-place; part = hands-back }
+
+pub demand-3-level : Demand3Level
+demand-3-level = record { claims = demand-3; covers = covers; goes-on = goes-on; shows = shows; reaches = reaches }

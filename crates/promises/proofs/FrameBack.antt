@@ -75,7 +75,7 @@ module _ (s r : ℕ) (asdu : List ℕ) where
   unfolding iOctets leOctets leOf
   receive-is h = halved r h
 
-  i-reads : s ≤ 32767 → r ≤ 32767 → 1 ≤ length asdu → readRefusal asdu ≡ 0 → frameAnswer (iOctets s r asdu) ≡ I (sendNumber s) (receiveNumber r)
+  pub i-reads : s ≤ 32767 → r ≤ 32767 → 1 ≤ length asdu → readRefusal asdu ≡ 0 → frameAnswer (iOctets s r asdu) ≡ I (sendNumber s) (receiveNumber r)
   i-reads hs hr some h =
       let f = iOctets s r asdu in
       let small = octets-small asdu h in
@@ -86,7 +86,7 @@ module _ (s r : ℕ) (asdu : List ℕ) where
       long-reads f (ap (λ (n : ℕ). n % 2) third-is ∙ even-octet s) (ap (λ (n : ℕ). n % 2) fifth-is ∙ even-octet r) (ap readRefusal rest-is ∙ h) in
       long ∙ (read ∙ rw (send-is hs, receive-is hr))
 
-  part-is : {n m : ℕ} → frameAnswer (iOctets s r asdu) ≡ I (sendNumber n) (receiveNumber m) → asduPart (iOctets s r asdu) ≡ asdu
+  pub part-is : {n m : ℕ} → frameAnswer (iOctets s r asdu) ≡ I (sendNumber n) (receiveNumber m) → asduPart (iOctets s r asdu) ≡ asdu
   unfolding asduPart
   part-is e = rw e rest-is
 
@@ -101,7 +101,7 @@ i-back s r a room typed h =
 
 -- ---- an S frame
 
-s-reads : (r : ℕ) → r ≤ 32767 → frameAnswer (sOctets r) ≡ S (receiveNumber r)
+pub s-reads : (r : ℕ) → r ≤ 32767 → frameAnswer (sOctets r) ≡ S (receiveNumber r)
 unfolding frameAnswer outerRefusal shortAnswer sOctets leOctets leOf
 s-reads r h = ap (λ (n : ℕ). S (receiveNumber n)) (halved r h)
 

@@ -1,5 +1,6 @@
--- Document 01's cases marked * for reading frames and ASDUs: one list, one claim. Answers stand in plain numbers and marks.
-use Prim.Native.Nat.{ℕ}
+-- Document 01's cases marked *, for reading frames and ASDUs and for acknowledging: one list, one claim. Answers stand in
+-- plain numbers and marks.
+use Prim.Native.Nat.{ℕ, _-_, _%_, _≤_}
 use mathlib.Core.Path.{_≡_}
 use mathlib.Core.Bool.{Bool, true, false}
 use mathlib.Core.List.{List, [], _∷_}
@@ -17,6 +18,9 @@ use Rattle.apdu.specs.Control.{sendNumber, receiveNumber}
 use Rattle.apdu.specs.Reading.{frameAnswer, asduPart}
 use Rattle.apdu.specs.Plain.{plainFrame}
 use Rattle.apdu.specs.declared.frame.FrameAnswer.the-variants.{I, S, U, Refused}
+use Rattle.link_state.specs.Acknowledging.{acknowledged}
+use Rattle.link_state.specs.declared.acknowledging.AckAnswer.{AckAnswer}
+use Rattle.link_state.specs.declared.acknowledging.AckAnswer.the-variants as AckAnswer
 
 -- ---- what reading answers
 
@@ -33,6 +37,19 @@ pub data Reading : Type 0 where
   iFrame : ℕ → ℕ → List Object → Reading
   asduRefused : ℕ → Reading
   asdu : List Object → Reading
+
+-- ---- what a receive number does
+
+-- it frees so many frames, or it is refused with a number; or it frees none, and every other one is refused with a number
+pub data Acknowledging : Type 0 where
+  frees : ℕ → ℕ → Acknowledging
+  refuses : ℕ → ℕ → Acknowledging
+  only : ℕ → ℕ → Acknowledging
+
+-- octets and how they are read; S, A, a receive number and what it does
+pub data Case : Type 0 where
+  read : List ℕ → Reading → Case
+  acknowledge : ℕ → ℕ → Acknowledging → Case
 
 -- ---- the claim
 
@@ -55,30 +72,50 @@ Reads f (iFrame s r os) = (frameAnswer f ≡ I (sendNumber s) (receiveNumber r))
 Reads s (asduRefused n) = (readAsdu s .answer ≡ Answer.Refused (refusal n)) × (plainAnswer s ≡ PlainAnswer.Refused (refusal n))
 Reads s (asdu os) = Holding s os
 
-abbrev pub AllHold : List (List ℕ × Reading) → Type 0
+-- S I frames were handed out and A of them are confirmed: S − A are outstanding, and the next has S's remainder as its number
+abbrev pub answer : ℕ → ℕ → ℕ → AckAnswer
+answer s a number = acknowledged (s % 32768) (s - a) number
+
+abbrev pub Acknowledges : ℕ → ℕ → Acknowledging → Type 0
+Acknowledges s a (frees number d) = answer s a number ≡ AckAnswer.Frees d
+Acknowledges s a (refuses number n) = answer s a number ≡ AckAnswer.Refused (refusal n)
+Acknowledges s a (only number n) =
+    (answer s a number ≡ AckAnswer.Frees 0) × ((r : ℕ) → r ≤ 32767 → (r ≡ number → ⊥) → answer s a r ≡ AckAnswer.Refused (refusal n))
+
+abbrev pub Holds : Case → Type 0
+Holds (read f r) = Reads f r
+Holds (acknowledge s a x) = Acknowledges s a x
+
+abbrev pub AllHold : List Case → Type 0
 AllHold [] = Unit {0}
-AllHold (c ∷ cs) = Reads (c .0) (c .1) × AllHold cs
+AllHold (c ∷ cs) = Holds c × AllHold cs
 
 -- ---- the list
 
-unfoldable pub marked : List (List ℕ × Reading)
+unfoldable pub marked : List Case
 marked =
-    (0x68 ∷ 0x04 ∷ 0x43 ∷ 0x00 ∷ 0x00 ∷ 0x00 ∷ [], uFrame false false false false true false)
-    ∷ (0x68 ∷ 0x04 ∷ 0x01 ∷ 0x00 ∷ 0x02 ∷ 0x00 ∷ [], sFrame 1 true)
-    ∷ (0x68 ∷ 0x04 ∷ 0x01 ∷ 0x00 ∷ 0x03 ∷ 0x00 ∷ [], sFrame 1 false)
-    ∷ (0x68 ∷ 0x04 ∷ 0x02 ∷ 0x00 ∷ 0x02 ∷ 0x00 ∷ [], frameRefused 5)
-    ∷ (0x68 ∷ 0x04 ∷ 0x03 ∷ 0x00 ∷ 0x01 ∷ 0x00 ∷ [], frameRefused 6)
-    ∷ (
-      0x68 ∷ 0x12 ∷ 0x04 ∷ 0x00 ∷ 0x06 ∷ 0x00 ∷ 0x0F ∷ 0x01 ∷ 0x03 ∷ 0x00 ∷ 0x01 ∷ 0x00 ∷ 0x0A ∷ 0x00 ∷ 0x00 ∷ 0xE8 ∷ 0x03 ∷ 0x00 ∷ 0x00 ∷ 0x05 ∷ [],
-      iFrame 2 3 (counter 1000 10 5 ∷ []),
-    )
-    ∷ (
-      0x0F ∷ 0x82 ∷ 0x03 ∷ 0x00 ∷ 0x01 ∷ 0x00 ∷ 0x0A ∷ 0x00 ∷ 0x00 ∷ 0xE8 ∷ 0x03 ∷ 0x00 ∷ 0x00 ∷ 0x05 ∷ 0xD0 ∷ 0x07 ∷ 0x00 ∷ 0x00 ∷ 0x05 ∷ [],
-      asdu (counter 1000 10 5 ∷ counter 2000 11 5 ∷ []),
-    )
-    ∷ (0x0F ∷ 0x80 ∷ 0x03 ∷ 0x00 ∷ 0x01 ∷ 0x00 ∷ 0x0A ∷ 0x00 ∷ 0x00 ∷ [], asduRefused 13)
-    ∷ (0x66 ∷ 0x81 ∷ 0x05 ∷ 0x00 ∷ 0x01 ∷ 0x00 ∷ 0x0A ∷ 0x00 ∷ 0x00 ∷ [], asduRefused 13)
-    ∷ (0x01 ∷ 0x01 ∷ 0x00 ∷ [], asduRefused 10)
+    read (0x68 ∷ 0x04 ∷ 0x43 ∷ 0x00 ∷ 0x00 ∷ 0x00 ∷ []) (uFrame false false false false true false)
+    ∷ read (0x68 ∷ 0x04 ∷ 0x01 ∷ 0x00 ∷ 0x02 ∷ 0x00 ∷ []) (sFrame 1 true)
+    ∷ read (0x68 ∷ 0x04 ∷ 0x01 ∷ 0x00 ∷ 0x03 ∷ 0x00 ∷ []) (sFrame 1 false)
+    ∷ read (0x68 ∷ 0x04 ∷ 0x02 ∷ 0x00 ∷ 0x02 ∷ 0x00 ∷ []) (frameRefused 5)
+    ∷ read (0x68 ∷ 0x04 ∷ 0x03 ∷ 0x00 ∷ 0x01 ∷ 0x00 ∷ []) (frameRefused 6)
+    ∷ read (0x68 ∷ 0x12 ∷ 0x04 ∷ 0x00 ∷ 0x06 ∷ 0x00 ∷ 0x0F ∷ 0x01 ∷ 0x03 ∷ 0x00 ∷ 0x01 ∷ 0x00 ∷ 0x0A ∷ 0x00 ∷ 0x00 ∷ 0xE8 ∷ 0x03 ∷ 0x00 ∷ 0x00 ∷ 0x05 ∷ [])
+    (iFrame 2 3 (counter 1000 10 5 ∷ []))
+    ∷ read (0x0F ∷ 0x82 ∷ 0x03 ∷ 0x00 ∷ 0x01 ∷ 0x00 ∷ 0x0A ∷ 0x00 ∷ 0x00 ∷ 0xE8 ∷ 0x03 ∷ 0x00 ∷ 0x00 ∷ 0x05 ∷ 0xD0 ∷ 0x07 ∷ 0x00 ∷ 0x00 ∷ 0x05 ∷ [])
+    (asdu (counter 1000 10 5 ∷ counter 2000 11 5 ∷ []))
+    ∷ read (0x0F ∷ 0x80 ∷ 0x03 ∷ 0x00 ∷ 0x01 ∷ 0x00 ∷ 0x0A ∷ 0x00 ∷ 0x00 ∷ []) (asduRefused 13)
+    ∷ read (0x66 ∷ 0x81 ∷ 0x05 ∷ 0x00 ∷ 0x01 ∷ 0x00 ∷ 0x0A ∷ 0x00 ∷ 0x00 ∷ []) (asduRefused 13)
+    ∷ read (0x01 ∷ 0x01 ∷ 0x00 ∷ []) (asduRefused 10)
+    ∷ acknowledge 5 2 (frees 2 0)
+    ∷ acknowledge 5 2 (frees 5 3)
+    ∷ acknowledge 5 2 (refuses 1 27)
+    ∷ acknowledge 5 2 (refuses 6 27)
+    ∷ acknowledge 32769 32767 (frees 32767 0)
+    ∷ acknowledge 32769 32767 (frees 0 1)
+    ∷ acknowledge 32769 32767 (frees 1 2)
+    ∷ acknowledge 32769 32767 (refuses 32766 27)
+    ∷ acknowledge 32769 32767 (refuses 2 27)
+    ∷ acknowledge 32768 32768 (only 0 27)
     ∷ []
 
 abbrev pub MarkedCases : Type 0

@@ -3,3 +3,4 @@ pub mod Frames
 pub mod Cases
 pub mod Streams
 pub mod Settled
+pub mod Demand3

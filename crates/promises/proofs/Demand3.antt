@@ -1,0 +1,389 @@
+-- Demand 3, call after call: what a transcript counts is what the link by totals and lists has. Assumes nothing.
+use Prim.Native.Nat.{ℕ, suc, _+_, _-_, _%_, _<_, _≤_}
+use mathlib.Core.Path.{_≡_, refl, sym, ap, subst, _∙_}
+use mathlib.Core.Bool.{Bool, true, false}
+use mathlib.Core.List.{List, [], _∷_, _++_, append-assoc}
+use native.Mathlib.Omega.{arith}
+use native.Mathlib.Nat.{add-zero, le-refl, mod-eq-of-lt}
+use borrow.Author.Tests.{eqb-true, eqb-false, eq-eqb}
+use lib.ListN.{length, take, drop, getD, replicate, length-append, length-replicate}
+use lib.Seq.{sets, take-at, drop-drop, drop-append-le, getD-drop}
+use lib.Dec.{eqb}
+use Rattle.laws.specs.Choice.{pick}
+use Rattle.laws.specs.Lists.{Octets, ring}
+use Rattle.laws.specs.Window.{Confirms, freed}
+use Rattle.laws.specs.Promises.{WindowLaw}
+use Rattle.laws.proofs.Lists.{octets-drop, sets-all, getD-tabulate}
+use Rattle.laws.proofs.Numbers.{le-fits}
+use Rattle.laws.proofs.Window.{window}
+use Rattle.elements.specs.Refusals.{refusal}
+use Rattle.apdu.specs.Control.{numberAt}
+use Rattle.apdu.specs.Reading.{frameAnswer, asduPart}
+use Rattle.apdu.specs.declared.frame.FrameAnswer.{FrameAnswer}
+use Rattle.assembly.specs.Streams.{rest, Outcome, stream}
+use Rattle.link_state.specs.Limits.{callRefusal}
+use Rattle.link_state.specs.declared.Settings.{Settings}
+use Rattle.link_state.specs.declared.Link.{Link}
+use Rattle.link_state.proofs.Sound.{sound-state, passed}
+use Rattle.link.specs.Frames.{Frame, wire}
+use Rattle.link.specs.Making.{windowFull}
+use Rattle.link.specs.Events.{Event, frame, send, stop, test, tick}
+use Rattle.link.specs.Events as events
+use Rattle.link.specs.Contracts.{answerOf, calledOf, linkNumber, linkWritten}
+use Rattle.link.specs.declared.answers.LinkAnswer.{LinkAnswer}
+use Rattle.link.specs.declared.answers.LinkAnswer.the-variants as LinkAnswer
+use Rattle.link_meaning.specs.Abstract.{Abstract, Result, fresh, step}
+use Rattle.link_meaning.specs.Meaning.{OctetsIn, waitingOf, timesOf, Same}
+use Rattle.link_meaning.specs.Runs.{Agrees}
+use Rattle.link_meaning.specs.Runs as totals
+use Rattle.link_meaning.proofs.Meaning.{steps-alike}
+use Rattle.link_meaning.proofs.Runs.{runs-agree}
+use Rattle.promises.specs.Demand3.{Call, outcomeOf, answered, poolAfter, Entry, entryOf, Run, opening, after, cut, iFramesIn, iFrames, S, sendTimes, asdusIn, haveLeft, Brought, framed, brings, confirmedBy, R, A, takenBy, taken, Numbered, Claim, Demand3}
+use Rattle.promises.proofs.FrameAgain.{Shape, i-shape, s-shape, u-shape, refused-shape, shape}
+use Rattle.promises.proofs.Demand3Pool.{pool-is}
+use Rattle.promises.proofs.Demand3Wire.{each, sentIn, cuts-out, asdus-out, numbers-out}
+use Rattle.promises.proofs.Demand3Steps.{AllPlain, Exact, Stepped, numberOf, stepped}
+
+-- ---- what a frame brings
+
+number-low : (f : List ℕ) → Octets f → numberAt 4 f ≤ 32767
+number-low f o = let h = le-fits 2 (drop 4 f) (octets-drop 4 f o) in omega arith
+
+frame-low : (f : List ℕ) → Octets f → numberOf (framed (frameAnswer f)) ≤ 32767
+frame-low f o = by (shape f)
+  where
+    at-most : {a : FrameAnswer} → frameAnswer f ≡ a → numberOf (framed a) ≤ 32767 → numberOf (framed (frameAnswer f)) ≤ 32767
+    at-most e h = rw e h
+
+    by : Shape f → numberOf (framed (frameAnswer f)) ≤ 32767
+    by (i-shape c e) = at-most e (number-low f o)
+    by (s-shape c e) = at-most e (number-low f o)
+    by (u-shape c e) = at-most e (omega arith)
+    by (refused-shape r n e) = at-most e (omega arith)
+
+brings-low : (e : Event) → OctetsIn e → numberOf (brings e) ≤ 32767
+brings-low (frame f more) o = frame-low f o
+brings-low (send x) o = omega arith
+brings-low stop o = omega arith
+brings-low test o = omega arith
+brings-low tick o = omega arith
+
+-- ---- what an answer says
+
+pub number-is : (o : events.Outcome) → linkNumber (answerOf o) ≡ o .refused
+unfolding answerOf
+number-is o = by (eqb (o .refused) 0) refl
+  where
+    by : (b : Bool) → eqb (o .refused) 0 ≡ b
+        → linkNumber (pick b (LinkAnswer.Done (record { written = length (wire (o .frames)); full = windowFull (o .state); came = o .came })) (LinkAnswer.Refused (refusal (o .refused)))) ≡ o .refused
+    by true e = sym (eqb-true _ _ e)
+    by false e = refl
+
+bytes-are : (o : events.Outcome) (out : List ℕ) → ((o .refused ≡ 0 → ⊥) → o .frames ≡ []) → length (wire (o .frames)) ≤ length out
+    → take (linkWritten (answerOf o)) (sets out 0 (wire (o .frames))) ≡ wire (o .frames)
+unfolding answerOf
+bytes-are o out silent h = by (eqb (o .refused) 0) refl
+  where
+    all : take (length (wire (o .frames))) (sets out 0 (wire (o .frames))) ≡ wire (o .frames)
+    all =
+        ap (take (length (wire (o .frames)))) (sets-all out (wire (o .frames)) h)
+        ∙ take-at (wire (o .frames)) (drop (length (wire (o .frames))) out) (length (wire (o .frames))) refl
+
+    by : (b : Bool) → eqb (o .refused) 0 ≡ b
+        → take (linkWritten (pick b (LinkAnswer.Done (record { written = length (wire (o .frames)); full = windowFull (o .state); came = o .came })) (LinkAnswer.Refused (refusal (o .refused)))))
+        (sets out 0 (wire (o .frames))) ≡ wire (o .frames)
+    by true e = all
+    by false e = unfold wire in sym (ap wire (silent (eqb-false _ _ e)))
+
+-- ---- a transcript beside the link by totals and lists
+
+pub record Counted (s : Settings) (past : List Entry) (a : Abstract) : Type 0 where
+  pub settings : a .settings ≡ s
+  pub sent : a .sent ≡ S past
+  pub received : a .received ≡ R past
+  pub confirmed : a .confirmed ≡ A past
+  pub times : a .times ≡ drop (A past) (sendTimes past)
+  pub timed : length (sendTimes past) ≡ S past
+  pub order : taken past ≡ haveLeft past ++ a .waiting
+  pub plain : AllPlain (a .waiting)
+
+pub counted-none : (s : Settings) (start : ℕ) → Counted s [] (fresh s start)
+unfolding fresh
+counted-none s start = record { settings = refl; sent = refl; received = refl; confirmed = refl; times = refl; timed = refl; order = refl; plain = tt }
+
+asdus-append : (fs gs : List (List ℕ)) → asdusIn (fs ++ gs) ≡ asdusIn fs ++ asdusIn gs
+asdus-append [] gs = refl
+asdus-append (f ∷ fs) gs = ap (λ (l : List (List ℕ)). asduPart f ∷ l) (asdus-append fs gs)
+
+asdus-long : (fs : List (List ℕ)) → length (asdusIn fs) ≡ length fs
+asdus-long [] = refl
+asdus-long (f ∷ fs) = ap suc (asdus-long fs)
+
+plain-rest : (xs ys : List (List ℕ)) → AllPlain (xs ++ ys) → AllPlain ys
+plain-rest [] ys h = h
+plain-rest (x ∷ xs) ys h = plain-rest xs ys (h .1)
+
+-- one entry more
+module _ (s : Settings) (e : Entry) (past : List Entry) (a : Abstract) (r : Result) (c : Counted s past a) (st : Stepped (brings (e .event)) (e .now) a r)
+    (number : e .number ≡ r .refused) (bytes : e .handed ≡ wire (r .frames)) where
+  out : List (List ℕ)
+  out = sentIn (r .frames)
+
+  streamed : stream (e .handed) ≡ record { frames = each (r .frames); end = rest [] }
+  unfolding stream
+  streamed = rw bytes (cuts-out (st .base .sent) (st .base .received) (r .frames) (st .went .carries) (length (wire (r .frames))) (le-refl _))
+
+  cut-is : cut (e .handed) ≡ each (r .frames)
+  cut-is = ap (λ (o : Outcome). o .frames) streamed
+
+  ends : stream (e .handed) .end ≡ rest []
+  ends = ap (λ (o : Outcome). o .end) streamed
+
+  left-is : asdusIn (iFramesIn (cut (e .handed))) ≡ out
+  unfolding out
+  left-is = ap (λ (l : List (List ℕ)). asdusIn (iFramesIn l)) cut-is ∙ asdus-out (st .base .sent) (st .base .received) (r .frames) (st .went .carries)
+
+  many : length (iFramesIn (cut (e .handed))) ≡ length out
+  many = sym (asdus-long (iFramesIn (cut (e .handed)))) ∙ ap length left-is
+
+  received-is : st .base .received ≡ R (e ∷ past)
+  received-is = st .received ∙ cc (number, c .received)
+
+  confirmed-is : st .base .confirmed ≡ A (e ∷ past)
+  confirmed-is = st .confirmed ∙ cc (number, c .confirmed)
+
+  numbers : Numbered (S past) (R (e ∷ past)) (cut (e .handed))
+  numbers =
+      let n = numbers-out (st .base .sent) (st .base .received) (r .frames) (st .went .carries) in
+      rw cut-is (subst (λ (k : ℕ). Numbered k (R (e ∷ past)) (each (r .frames))) (st .sent ∙ c .sent)
+      (subst (λ (k : ℕ). Numbered (st .base .sent) k (each (r .frames))) received-is n))
+
+  sent-is : r .link .sent ≡ S (e ∷ past)
+  unfolding out
+  sent-is =
+      let h = st .went .sent in
+      omega (arith, length-append (iFrames past) (iFramesIn (cut (e .handed))), many, st .sent, c .sent)
+
+  low : A (e ∷ past) ≤ length (sendTimes past)
+  low = let u = st .upto in omega (arith, confirmed-is, c .sent, c .timed)
+
+  times-are : r .link .times ≡ drop (A (e ∷ past)) (sendTimes (e ∷ past))
+  unfolding out
+  times-are =
+      let base : st .base .times ≡ drop (A (e ∷ past)) (sendTimes past) =
+      st .times
+      ∙ (ap (drop (st .steps)) (c .times)
+      ∙ (drop-drop (st .steps) (A past) (sendTimes past)
+      ∙ ap (λ (k : ℕ). drop k (sendTimes past)) (ap (λ (k : ℕ). k + st .steps) (sym (c .confirmed)) ∙ (sym (st .counted) ∙ confirmed-is)))) in
+      st .went .times
+      ∙ (cc (base, many)
+      ∙ sym (drop-append-le (A (e ∷ past)) (sendTimes past) (replicate (length (iFramesIn (cut (e .handed)))) (e .now)) low))
+
+  timed : length (sendTimes (e ∷ past)) ≡ S (e ∷ past)
+  timed =
+      let n = length (iFramesIn (cut (e .handed))) in
+      omega (
+        arith,
+        length-append (sendTimes past) (replicate n (e .now)),
+        length-replicate n (e .now),
+        length-append (iFrames past) (iFramesIn (cut (e .handed))),
+        c .timed,
+      )
+
+  order : taken (e ∷ past) ≡ haveLeft (e ∷ past) ++ r .link .waiting
+  unfolding out
+  order =
+      let new = pick (eqb (e .number) 0) (takenBy (brings (e .event))) [] in
+      let base : a .waiting ++ new ≡ out ++ r .link .waiting = cc (number, st .waiting, st .went .waiting) in
+      ap (λ (l : List (List ℕ)). l ++ new) (c .order)
+      ∙ (append-assoc (haveLeft past) (a .waiting) new
+      ∙ (ap (λ (l : List (List ℕ)). haveLeft past ++ l) base
+      ∙ (sym (append-assoc (haveLeft past) out (r .link .waiting))
+      ∙ ap (λ (l : List (List ℕ)). l ++ r .link .waiting)
+      (ap (λ (l : List (List ℕ)). haveLeft past ++ l) (sym left-is) ∙ sym (asdus-append (iFrames past) (iFramesIn (cut (e .handed))))))))
+
+  counted : Counted s (e ∷ past) (r .link)
+  unfolding out
+  counted =
+      record {
+        settings = st .went .settings ∙ (st .settings ∙ c .settings);
+        sent = sent-is;
+        received = st .went .received ∙ received-is;
+        confirmed = st .went .confirmed ∙ confirmed-is;
+        times = times-are;
+        timed = timed;
+        order = order;
+        plain = plain-rest out (r .link .waiting) (subst AllPlain (st .went .waiting) (st .plain));
+      }
+
+-- ---- a run
+
+-- the run of totals and lists beside it
+pub record Known (s : Settings) (start : ℕ) (pool : List ℕ) (past : List Entry) (l : Link) (between : List ℕ) : Type 0 where
+  pub link : Abstract
+  pub run : totals.Run s start pool l between link
+  pub counted : Counted s past link
+
+module _ (s : Settings) (start : ℕ) (pool : List ℕ) (past : List Entry) (l : Link) (between : List ℕ) (k : Known s start pool past l between) (c : Call) (o : OctetsIn (c .event))
+    (free : callRefusal l (length (c .output)) (length between) (c .now) ≡ 0) where
+  agrees : Agrees l between (k .link)
+  agrees = runs-agree s start pool l between (k .link) (k .run)
+
+  abbrev pub result : Result
+  result = step (c .event) (c .now) (k .link)
+
+  few : length (k .link .waiting) ≤ 16
+  few =
+      let p = ap (λ (x : Settings). x .p) (agrees .means .settings) in
+      let h = sound-state l (agrees .sound) .p-high in
+      let w = agrees .within .waiting in
+      omega arith
+
+  alike : Same (outcomeOf c l between) result
+  alike = steps-alike (c .event) l between (length (c .output)) (c .now) (k .link) (agrees .shaped) o free (agrees .means)
+
+  done : Stepped (brings (c .event)) (c .now) (k .link) result
+  done = stepped (c .now) (k .link) (agrees .within) few (k .counted .plain) (c .event) (brings-low (c .event) o)
+
+  entry-number : entryOf c l between .number ≡ result .refused
+  unfolding calledOf
+  entry-number = number-is (outcomeOf c l between) ∙ alike .refused
+
+  entry-bytes : entryOf c l between .handed ≡ wire (result .frames)
+  unfolding calledOf
+  entry-bytes =
+      let fs = alike .frames in
+      let size = done .went .size in
+      let room = passed l (length (c .output)) (length between) (c .now) free .output-room in
+      bytes-are (outcomeOf c l between) (c .output) (λ z. fs ∙ done .silent (λ q. z (alike .refused ∙ q))) (omega (arith, ap (λ (x : List Frame). length (wire x)) fs))
+      ∙ ap wire fs
+
+  pub next : Known s start pool (entryOf c l between ∷ past) (answered c l between .link) (poolAfter c l between)
+  unfolding calledOf
+  next =
+      record {
+        link = result .link;
+        run =
+            subst (λ (q : List ℕ). totals.Run s start pool (answered c l between .link) q (result .link)) (pool-is (c .event) l between (length (c .output)) (c .now))
+            (totals.after (k .run) (record { event = c .event; output = length (c .output); now = c .now }) o free);
+        counted = counted s (entryOf c l between) past (k .link) result (k .counted) done entry-number entry-bytes;
+      }
+
+  pub next-link : next .link ≡ result .link
+  unfolding next
+  next-link = refl
+
+pub known : (s : Settings) (start : ℕ) (pool : List ℕ) (past : List Entry) (l : Link) (between : List ℕ) → Run s start pool past l between → Known s start pool past l between
+known s start pool past l between (opening e) = record { link = fresh s start; run = totals.opening e; counted = counted-none s start }
+known s start pool past l between (after {past = q} {l = m} {between = b} before c o free) = next s start pool q m b (known s start pool q m b before) c o free
+
+-- ---- the claim
+
+-- the place in a ring of the oldest
+first-of : (f : ℕ → ℕ) (m p n : ℕ) → p < m → 0 < n → getD (ring f m p n) 0 0 ≡ f p
+unfolding ring
+first-of f m p n h some =
+    getD-tabulate (λ (i : ℕ). f ((p + i) % m)) 0 n 0 0 some ∙ ap f (ap (λ (k : ℕ). k % m) (add-zero p) ∙ mod-eq-of-lt h)
+
+-- a link that agrees with what a transcript counts
+module _ (s : Settings) (past : List Entry) (l : Link) (between : List ℕ) (a : Abstract) (g : Agrees l between a) (c : Counted s past a) where
+  abbrev held : ℕ
+  held = l .state .window .held
+
+  k-is : l .state .settings .k ≡ s .k
+  k-is = ap (λ (x : Settings). x .k) (g .means .settings ∙ c .settings)
+
+  outstanding : held + A past ≡ S past
+  outstanding = omega (arith, g .means .held, c .sent, c .confirmed)
+
+  at-most-k : held ≤ s .k
+  at-most-k = let h = sound-state l (g .sound) .held-k in omega (arith, k-is)
+
+  oldest : 0 < held → getD (l .times) (l .state .window .first) 0 ≡ getD (sendTimes past) (A past) 0
+  unfolding timesOf
+  oldest some =
+      let first = sound-state l (g .sound) .first-high in
+      let places = g .shaped .times in
+      sym (first-of (λ (q : ℕ). getD (l .times) q 0) (length (l .times)) (l .state .window .first) held (omega arith) some)
+      ∙ (ap (λ (x : List ℕ). getD x 0 0) (g .means .send-times ∙ c .times)
+      ∙ (getD-drop (A past) (sendTimes past) 0 0 ∙ ap (λ (k : ℕ). getD (sendTimes past) k 0) (add-zero (A past))))
+
+  in-order : taken past ≡ haveLeft past ++ waitingOf (l .state .queue) between
+  in-order = rw (g .means .waiting) (c .order)
+
+  only-full : 0 < length (waitingOf (l .state .queue) between) → held ≡ s .k
+  only-full some =
+      let more : 0 < length (a .waiting) = (rw (g .means .waiting) at some) in
+      let full = g .within .only-full more in
+      omega (arith, g .means .held, k-is, ap (λ (x : Settings). x .k) (c .settings))
+
+  -- fewer than 32,768 are outstanding, so a number has one total
+  narrow : S past - A past < 32768
+  narrow = let h = sound-state l (g .sound) .held-k in let k = sound-state l (g .sound) .k-high in omega (arith, outstanding)
+
+  law : (r : ℕ) → r < 32768 → WindowLaw 32768 (A past) (S past) r
+  law r h = window 32768 (A past) (S past) r (omega (arith, outstanding)) narrow h
+
+  is-next : (r b : ℕ) → Confirms 32768 (A past) (S past) r b → b ≡ A past + freed 32768 (A past) r
+  is-next r b k = let e = k .remainder in law r (omega arith) .one b k
+
+module _ (s : Settings) (start : ℕ) (pool : List ℕ) (past : List Entry) (l : Link) (between : List ℕ) (k : Known s start pool past l between) (c : Call) (o : OctetsIn (c .event))
+    (free : callRefusal l (length (c .output)) (length between) (c .now) ≡ 0) where
+  abbrev e : Entry
+  e = entryOf c l between
+
+  abbrev l′ : Link
+  l′ = answered c l between .link
+
+  abbrev pool′ : List ℕ
+  pool′ = poolAfter c l between
+
+  -- before the call, and after it
+  was : Agrees l between (k .link)
+  was = runs-agree s start pool l between (k .link) (k .run)
+
+  after-it : Known s start pool (e ∷ past) l′ pool′
+  after-it = next s start pool past l between k c o free
+
+  is : Agrees l′ pool′ (after-it .link)
+  is = runs-agree s start pool l′ pool′ (after-it .link) (after-it .run)
+
+  did : Stepped (brings (c .event)) (c .now) (k .link) (step (c .event) (c .now) (k .link))
+  did = done s start pool past l between k c o free
+
+  exact : Exact (brings (c .event)) (e .number) (S past) (A past) (R past)
+  exact =
+      let n = entry-number s start pool past l between k c o free in
+      let d = k .counted in
+      rw (n, ← d .sent, ← d .confirmed, ← d .received) (did .exact)
+
+  single : (r b : ℕ) → Confirms 32768 (A past) (S past) r b → b ≡ A past + freed 32768 (A past) r
+  single = is-next s past l between (k .link) was (k .counted)
+
+  becomes : (r : ℕ) → confirmedBy (brings (c .event)) (A past) ≡ A past + freed 32768 (A past) r → (b : ℕ) → e .number ≡ 0 → Confirms 32768 (A past) (S past) r b
+      → A (e ∷ past) ≡ b
+  becomes r h b z f = rw (eq-eqb (e .number) 0 z) (h ∙ sym (single r b f))
+
+  claim : Claim s e past l′ pool′
+  claim =
+      let d = after-it .counted in
+      record {
+        s-accepted = λ r h. subst (λ (b : Brought). Exact b (e .number) (S past) (A past) (R past)) h exact;
+        i-accepted = λ n r h. subst (λ (b : Brought). Exact b (e .number) (S past) (A past) (R past)) h exact;
+        unique = λ r x y p q. single r x p ∙ sym (single r y q);
+        s-becomes = λ r x h z f. becomes r (ap (λ (b : Brought). confirmedBy b (A past)) h) x z f;
+        i-becomes = λ n r x h z f. becomes r (ap (λ (b : Brought). confirmedBy b (A past)) h) x z f;
+        numbers =
+            numbers s e past (k .link) _ (k .counted) did (entry-number s start pool past l between k c o free) (entry-bytes s start pool past l between k c o free);
+        whole = ends s e past (k .link) _ (k .counted) did (entry-number s start pool past l between k c o free) (entry-bytes s start pool past l between k c o free);
+        outstanding = outstanding s (e ∷ past) l′ pool′ (after-it .link) is d;
+        at-most-k = at-most-k s (e ∷ past) l′ pool′ (after-it .link) is d;
+        oldest = oldest s (e ∷ past) l′ pool′ (after-it .link) is d;
+        timed = d .timed;
+        in-order = in-order s (e ∷ past) l′ pool′ (after-it .link) is d;
+        only-full = only-full s (e ∷ past) l′ pool′ (after-it .link) is d;
+      }
+
+pub demand-3 : Demand3
+demand-3 s start pool past l between (opening e) = tt
+demand-3 s start pool past l between (after {past = q} {l = m} {between = b} before c o free) = claim s start pool q m b (known s start pool q m b before) c o free

@@ -1,0 +1,513 @@
+-- What an event does to the link by totals and lists, as a transcript counts it. Assumes nothing.
+use Prim.Native.Nat.{ℕ, _+_, _*_, _%_, _<_, _≤_}
+use mathlib.Core.Path.{_≡_, refl, sym, ap, _∙_}
+use mathlib.Core.Bool.{Bool, true, false}
+use mathlib.Core.List.{List, [], _∷_, _++_, append-assoc, append-nil}
+use mathlib.Core.Logic.{_↔_}
+use native.Mathlib.Omega.{arith}
+use native.Mathlib.Nat.{add-zero, le-refl}
+use borrow.Author.Tests.{eqb-true, eqb-false, leb-true, le-leb, ltb-true, ne-eqb}
+use lib.ListN.{length, drop, replicate, length-append, replicate-append-replicate}
+use lib.Dec.{eqb, leb}
+use Rattle.laws.specs.Choice.{pick}
+use Rattle.laws.specs.Window.{Confirms}
+use Rattle.laws.specs.Promises.{WindowLaw}
+use Rattle.laws.proofs.Window.{window}
+use Rattle.elements.specs.Refusals.{refusal, wrongReceiveNumber, wrongSendNumber, uNotAnswered, tooManyTests, queueFull, notPlainForm}
+use Rattle.elements.specs.declared.refusals.Refusal.{Refusal}
+use Rattle.asdu.specs.Header.{headerAnswer}
+use Rattle.asdu.specs.Reading.{readRefusal}
+use Rattle.asdu.specs.Plain.{plainBy, plainAnswer}
+use Rattle.asdu.specs.declared.PlainAnswer.{PlainAnswer}
+use Rattle.asdu.specs.declared.PlainAnswer.the-variants as PlainAnswer
+use Rattle.apdu.specs.Control.{uOctet}
+use Rattle.apdu.specs.Reading.{frameAnswer}
+use Rattle.apdu.specs.declared.frame.UFrame.{UFrame}
+use Rattle.apdu.specs.declared.frame.FrameAnswer.{FrameAnswer}
+use Rattle.apdu.specs.declared.frame.FrameAnswer.the-variants as FrameAnswer
+use Rattle.link_state.specs.declared.Settings.{Settings}
+use Rattle.link_state.specs.declared.Timers.{Timers}
+use Rattle.link.specs.Frames.{Frame, iFrame, sFrame, uFrame, octetsOf, wire, stopAct, stopCon, testAct, testCon}
+use Rattle.link.specs.Events.{Event, frame, send, stop, test, tick, isDue}
+use Rattle.link_meaning.specs.Abstract.{Abstract, Progress, Result, onWire, outstanding, isOpen, freedBy, fits, free, count, sendOne, queue, timing, t1uFrom, t2From, t3From, testFrom, testAnswered, setClock, settle, ended, begin, change, add, sendOut, flush, letting, confirmAll, testOut, mustConfirm, finish, accept, refuse, close, stepS, stepI, stopLink, stepU, stepFrame, stepPlain, stepSend, stepStop, manyOpen, stepTest, tickNumber, tickT2, tickT3, stepTick, step}
+use Rattle.link_meaning.specs.Runs.{Within}
+use Rattle.promises.specs.Demand3.{Brought, anI, anS, anAsdu, other, framed, brings, receivedBy, confirmedBy, takenBy}
+use Rattle.promises.proofs.Demand3Wire.{Carrying, sentIn, carry-append, sent-append, wire-append, s-six, u-six, i-most}
+
+-- ---- what has gone out so far
+
+-- from the link a on: the ASDUs handed out stood first of those that waited, each with its number and the time now; n bounds
+-- the octets
+pub record Went (n : ℕ) (a : Abstract) (now : ℕ) (p : Progress) : Type 0 where
+  pub settings : p .link .settings ≡ a .settings
+  pub received : p .link .received ≡ a .received
+  pub confirmed : p .link .confirmed ≡ a .confirmed
+  pub sent : p .link .sent ≡ a .sent + length (sentIn (p .frames))
+  pub times : p .link .times ≡ a .times ++ replicate (length (sentIn (p .frames))) now
+  pub waiting : a .waiting ≡ sentIn (p .frames) ++ p .link .waiting
+  pub carries : Carrying (a .sent) (a .received) (p .frames)
+  pub size : length (wire (p .frames)) ≤ n
+
+-- nothing that is counted differs
+record Quiet (q a : Abstract) : Type 0 where
+  settings : q .settings ≡ a .settings
+  received : q .received ≡ a .received
+  confirmed : q .confirmed ≡ a .confirmed
+  sent : q .sent ≡ a .sent
+  times : q .times ≡ a .times
+  waiting : q .waiting ≡ a .waiting
+
+quiet-timing : (f : Settings → Timers → Timers) (a : Abstract) → Quiet (timing f a) a
+unfolding timing
+quiet-timing f a = record { settings = refl; received = refl; confirmed = refl; sent = refl; times = refl; waiting = refl }
+
+quiet-clock : (now : ℕ) (a : Abstract) → Quiet (setClock now a) a
+quiet-clock now a = record { settings = refl; received = refl; confirmed = refl; sent = refl; times = refl; waiting = refl }
+
+quiet-settle : (a : Abstract) → Quiet (settle a) a
+unfolding settle
+quiet-settle a = record { settings = refl; received = refl; confirmed = refl; sent = refl; times = refl; waiting = refl }
+
+quiet-ended : (n : ℕ) (a : Abstract) → Quiet (ended n a) a
+unfolding ended
+quiet-ended n a = record { settings = refl; received = refl; confirmed = refl; sent = refl; times = refl; waiting = refl }
+
+-- ASDUs of plain form
+abbrev pub AllPlain : List (List ℕ) → Type 0
+AllPlain [] = Unit {0}
+AllPlain (x ∷ xs) = (plainAnswer x ≡ PlainAnswer.Plain) × AllPlain xs
+
+module _ (a : Abstract) (now : ℕ) where
+  went-begin : Went 0 a now (begin a)
+  unfolding wire
+  went-begin =
+      record {
+        settings = refl;
+        received = refl;
+        confirmed = refl;
+        sent = sym (add-zero (a .sent));
+        times = sym (append-nil (a .times));
+        waiting = refl;
+        carries = tt;
+        size = le-refl 0;
+      }
+
+  went-more : {n m : ℕ} {p : Progress} → n ≤ m → Went n a now p → Went m a now p
+  went-more h w =
+      let z = w .size in
+      record {
+        settings = w .settings;
+        received = w .received;
+        confirmed = w .confirmed;
+        sent = w .sent;
+        times = w .times;
+        waiting = w .waiting;
+        carries = w .carries;
+        size = omega arith;
+      }
+
+  went-quiet : {n : ℕ} (p : Progress) (q : Abstract) → Quiet q (p .link) → Went n a now p → Went n a now (record { link = q; frames = p .frames })
+  went-quiet p q s w =
+      record {
+        settings = s .settings ∙ w .settings;
+        received = s .received ∙ w .received;
+        confirmed = s .confirmed ∙ w .confirmed;
+        sent = s .sent ∙ w .sent;
+        times = s .times ∙ w .times;
+        waiting = w .waiting ∙ ap (λ (l : List (List ℕ)). sentIn (p .frames) ++ l) (sym (s .waiting));
+        carries = w .carries;
+        size = w .size;
+      }
+
+  went-timing : {n : ℕ} (f : Settings → Timers → Timers) (p : Progress) → Went n a now p → Went n a now (change (timing f) p)
+  went-timing f p w = went-quiet p (timing f (p .link)) (quiet-timing f (p .link)) w
+
+  -- ---- frames without an ASDU
+
+  longer : (p : Progress) (f : Frame) (m : ℕ) {n : ℕ} → length (octetsOf f) ≤ m → length (wire (p .frames)) ≤ n → length (wire (p .frames ++ (f ∷ []))) ≤ n + m
+  unfolding wire
+  longer p f m h l = omega (arith, ap length (wire-append (p .frames) (f ∷ [])), length-append (wire (p .frames)) (octetsOf f ++ []), length-append (octetsOf f) [])
+
+  went-short : {n : ℕ} (f : Frame) (p : Progress) → sentIn (f ∷ []) ≡ [] → length (octetsOf f) ≡ 6 → Carrying (p .link .sent) (a .received) (f ∷ [])
+      → Went n a now p → Went (n + 6) a now (add f p)
+  went-short f p none six h w =
+      let same : sentIn (p .frames ++ (f ∷ [])) ≡ sentIn (p .frames) =
+      sent-append (p .frames) (f ∷ []) ∙ (ap (λ (l : List (List ℕ)). sentIn (p .frames) ++ l) none ∙ append-nil (sentIn (p .frames))) in
+      record {
+        settings = w .settings;
+        received = w .received;
+        confirmed = w .confirmed;
+        sent = rw same (w .sent);
+        times = rw same (w .times);
+        waiting = rw same (w .waiting);
+        carries = carry-append (a .sent) (a .received) (p .link .sent) (p .frames) (f ∷ []) (w .sent) (w .carries) h;
+        size = longer p f 6 (omega (arith, six)) (w .size);
+      }
+
+  went-u : {n : ℕ} (u : UFrame) (p : Progress) → Went n a now p → Went (n + 6) a now (add (uFrame u) p)
+  went-u u p w = went-short (uFrame u) p refl (u-six u) tt w
+
+  went-confirm : {n : ℕ} (p : Progress) → Went n a now p → Went (n + 6) a now (confirmAll p)
+  unfolding confirmAll
+  went-confirm p w =
+      let f = sFrame (onWire (p .link .received)) in
+      went-quiet (add f p) (settle (p .link)) (quiet-settle (p .link))
+      (went-short f p refl (s-six (onWire (p .link .received))) (ap (λ (n : ℕ). n % 32768) (w .received), tt) w)
+
+  went-test : {n : ℕ} (p : Progress) → Went n a now p → Went (n + 6) a now (testOut now p)
+  unfolding testOut
+  went-test p w = went-timing (testFrom now) _ (went-u _ p w)
+
+  -- by a test, with a bound for both
+  went-pick : {n : ℕ} (b : Bool) {p q : Progress} → Went n a now p → Went n a now q → Went n a now (pick b p q)
+  went-pick true v w = v
+  went-pick false v w = w
+
+  went-finish : {n : ℕ} (more : Bool) (p : Progress) → Went n a now p → Went (n + 6) a now (finish more now p)
+  unfolding finish
+  went-finish more p w =
+      let c = went-quiet p (setClock now (p .link)) (quiet-clock now (p .link)) w in
+      went-pick (mustConfirm (p .link) more) (went-confirm _ c) (went-more (omega arith) c)
+
+  -- ---- I frames
+
+  went-out : {n : ℕ} (x : List ℕ) (xs : List (List ℕ)) (p : Progress) → p .link .waiting ≡ x ∷ xs → plainAnswer x ≡ PlainAnswer.Plain
+      → Went n a now p → Went (n + 255) a now (sendOut now x xs p)
+  unfolding sendOut sendOne
+  went-out x xs p e plain w =
+      let f = iFrame (onWire (p .link .sent)) (onWire (p .link .received)) x in
+      let out = sentIn (p .frames) in
+      let one : sentIn (p .frames ++ (f ∷ [])) ≡ out ++ (x ∷ []) = sent-append (p .frames) (f ∷ []) in
+      let many : length (out ++ (x ∷ [])) ≡ length out + 1 = length-append out (x ∷ []) in
+      let sent = w .sent in
+      record {
+        settings = w .settings;
+        received = w .received;
+        confirmed = w .confirmed;
+        sent = rw (one, many) (omega arith);
+        times = rw (one, many, ← replicate-append-replicate (length out) 1 now, w .times) (append-assoc (a .times) (replicate (length out) now) (now ∷ []));
+        waiting = rw one (w .waiting ∙ (ap (λ (l : List (List ℕ)). out ++ l) e ∙ sym (append-assoc out (x ∷ []) xs)));
+        carries =
+            carry-append (a .sent) (a .received) (p .link .sent) (p .frames) (f ∷ []) (w .sent) (w .carries)
+            (refl, ap (λ (n : ℕ). n % 32768) (w .received), plain, tt);
+        size = longer p f 255 (i-most (onWire (p .link .sent)) (onWire (p .link .received)) x plain) (w .size);
+      }
+
+  went-flush : (n m : ℕ) (xs : List (List ℕ)) (p : Progress) → n + 255 * length xs ≤ m → p .link .waiting ≡ xs → AllPlain xs
+      → Went n a now p → Went m a now (flush now xs p)
+  unfolding flush
+  went-flush n m [] p h e plain w = went-more (omega arith) w
+  went-flush n m (x ∷ xs) p h e plain w =
+      went-pick (isOpen (p .link))
+      (went-flush (n + 255) m xs (sendOut now x xs p) (omega arith) (unfold sendOut sendOne in refl) (plain .1) (went-out x xs p e (plain .0) w))
+      (went-more (omega arith) w)
+
+-- ---- a call, as a transcript counts it
+
+-- accepted exactly if, in totals
+abbrev pub Exact : Brought → ℕ → ℕ → ℕ → ℕ → Type 0
+Exact (anI n r) number s c t = (number ≡ 0) ↔ (((a : ℕ) × Confirms 32768 c s r a) × (n ≡ t % 32768))
+Exact (anS r) number s c t = (number ≡ 0) ↔ ((a : ℕ) × Confirms 32768 c s r a)
+Exact (anAsdu x) number s c t = Unit {0}
+Exact other number s c t = Unit {0}
+
+abbrev pub outOf : Result → Progress
+outOf r = record { link = r .link; frames = r .frames }
+
+-- base is the link with what the call brought, before anything goes out
+pub record Stepped (b : Brought) (now : ℕ) (a : Abstract) (r : Result) : Type 0 where
+  pub base : Abstract
+  pub steps : ℕ
+  pub settings : base .settings ≡ a .settings
+  pub sent : base .sent ≡ a .sent
+  pub received : base .received ≡ pick (eqb (r .refused) 0) (receivedBy b (a .received)) (a .received)
+  pub confirmed : base .confirmed ≡ pick (eqb (r .refused) 0) (confirmedBy b (a .confirmed)) (a .confirmed)
+  pub counted : base .confirmed ≡ a .confirmed + steps
+  pub upto : base .confirmed ≤ a .sent
+  pub times : base .times ≡ drop steps (a .times)
+  pub waiting : base .waiting ≡ a .waiting ++ pick (eqb (r .refused) 0) (takenBy b) []
+  pub plain : AllPlain (base .waiting)
+  pub went : Went 4096 base now (outOf r)
+  pub silent : (r .refused ≡ 0 → ⊥) → r .frames ≡ []
+  pub exact : Exact b (r .refused) (a .sent) (a .confirmed) (a .received)
+
+-- the receive number, if any
+abbrev pub numberOf : Brought → ℕ
+numberOf (anI n r) = r
+numberOf (anS r) = r
+numberOf (anAsdu x) = 0
+numberOf other = 0
+
+same : {X : Type 0} (b : Bool) (x : X) → x ≡ pick b x x
+same true x = refl
+same false x = refl
+
+module _ (now : ℕ) (a : Abstract) (within : Within a) (few : length (a .waiting) ≤ 16) (plain : AllPlain (a .waiting)) where
+  -- a call that brings nothing that is counted
+  stepped-other : (r : Result) → Went 4096 a now (outOf r) → ((r .refused ≡ 0 → ⊥) → r .frames ≡ []) → Stepped other now a r
+  stepped-other r w silent =
+      record {
+        base = a;
+        steps = 0;
+        settings = refl;
+        sent = refl;
+        received = same (eqb (r .refused) 0) (a .received);
+        confirmed = same (eqb (r .refused) 0) (a .confirmed);
+        counted = sym (add-zero (a .confirmed));
+        upto = within .confirmed;
+        times = refl;
+        waiting = sym (append-nil (a .waiting)) ∙ ap (λ (l : List (List ℕ)). a .waiting ++ l) (same (eqb (r .refused) 0) []);
+        plain = plain;
+        went = w;
+        silent = silent;
+        exact = tt;
+      }
+
+  -- one that is refused, and leaves what is counted
+  stepped-refused : (b : Brought) (r : Result) → (r .refused ≡ 0 → ⊥) → r .frames ≡ [] → Quiet (r .link) a
+      → Exact b (r .refused) (a .sent) (a .confirmed) (a .received) → Stepped b now a r
+  stepped-refused b r some none q exact =
+      let z : eqb (r .refused) 0 ≡ false = ne-eqb (r .refused) 0 some in
+      record {
+        base = a;
+        steps = 0;
+        settings = refl;
+        sent = refl;
+        received = rw z;
+        confirmed = rw z;
+        counted = sym (add-zero (a .confirmed));
+        upto = within .confirmed;
+        times = refl;
+        waiting = rw z (sym (append-nil (a .waiting)));
+        plain = plain;
+        went = rw none (went-more a now (omega arith) (went-quiet a now (begin a) (r .link) q (went-begin a now)));
+        silent = λ h. none;
+        exact = exact;
+      }
+
+  accepted-other : {n : ℕ} (came : Bool) (p : Progress) → n ≤ 4096 → Went n a now p → Stepped other now a (accept came p)
+  unfolding accept
+  accepted-other came p h w = stepped-other (accept came p) (went-more a now h w) (λ z. absurd (z refl))
+
+  closed : (b : Brought) (n : ℕ) → (n ≡ 0 → ⊥) → Exact b n (a .sent) (a .confirmed) (a .received) → Stepped b now a (close n a)
+  unfolding close
+  closed b n some exact = stepped-refused b (close n a) some refl (quiet-ended n a) exact
+
+  closed-other : (n : ℕ) → Stepped other now a (close n a)
+  unfolding close
+  closed-other n =
+      stepped-other (close n a) (went-more a now (omega arith) (went-quiet a now (begin a) (ended n a) (quiet-ended n a) (went-begin a now))) (λ z. refl)
+
+  refused : (x : List ℕ) (n : ℕ) → (n ≡ 0 → ⊥) → Stepped (anAsdu x) now a (refuse n a)
+  unfolding refuse
+  refused x n some =
+      stepped-refused (anAsdu x) (refuse n a) some refl (record { settings = refl; received = refl; confirmed = refl; sent = refl; times = refl; waiting = refl }) tt
+
+  by-test : {b : Brought} (t : Bool) {p q : Result} → (t ≡ true → Stepped b now a p) → (t ≡ false → Stepped b now a q) → Stepped b now a (pick t p q)
+  by-test true f g = f refl
+  by-test false f g = g refl
+
+  -- ---- a receive number
+
+  law : (r : ℕ) → r ≤ 32767 → WindowLaw 32768 (a .confirmed) (a .sent) r
+  law r h = let w = within .window in let k = within .k-high in window 32768 (a .confirmed) (a .sent) r (within .confirmed) (omega arith) (omega arith)
+
+  fits-some : (r : ℕ) → r ≤ 32767 → fits r a ≡ true → (c : ℕ) × Confirms 32768 (a .confirmed) (a .sent) r c
+  unfolding fits
+  fits-some r h e = (a .confirmed + freedBy r a, law r h .some (leb-true _ _ e))
+
+  some-fits : (r : ℕ) → r ≤ 32767 → (c : ℕ) × Confirms 32768 (a .confirmed) (a .sent) r c → fits r a ≡ true
+  unfolding fits
+  some-fits r h k = let e = law r h .one (k .0) (k .1) in let m = k .1 .most in le-leb (a .confirmed + freedBy r a) (a .sent) (omega arith)
+
+  not-fitting : (r : ℕ) → r ≤ 32767 → fits r a ≡ false → (c : ℕ) × Confirms 32768 (a .confirmed) (a .sent) r c → ⊥
+  not-fitting r h e k = let z : _≡_ {A = ℕ} 0 1 = (let q = some-fits r h k in cc) in omega arith
+
+  upto-fits : (r : ℕ) → fits r a ≡ true → a .confirmed + freedBy r a ≤ a .sent
+  unfolding fits
+  upto-fits r e = leb-true _ _ e
+
+  -- d frames are confirmed, and what waits goes out: 16 at most
+  let-out : (d : ℕ) (b : Abstract) → length (b .waiting) ≤ 16 → AllPlain (b .waiting) → Went 4080 (free d b) now (letting d now b)
+  unfolding letting free
+  let-out d b l p = went-flush (free d b) now 0 4080 (b .waiting) (begin (free d b)) (omega arith) refl p (went-begin (free d b) now)
+
+  stepped-s : (r : ℕ) (more : Bool) → r ≤ 32767 → Stepped (anS r) now a (stepS r more now a)
+  unfolding stepS
+  stepped-s r more h =
+      by-test (fits r a)
+      (λ e. unfold accept in record {
+        base = free (freedBy r a) a;
+        steps = freedBy r a;
+        settings = unfold free in refl;
+        sent = unfold free in refl;
+        received = unfold free in refl;
+        confirmed = unfold free in refl;
+        counted = unfold free in refl;
+        upto = unfold free in upto-fits r e;
+        times = unfold free in refl;
+        waiting = unfold free in sym (append-nil (a .waiting));
+        plain = unfold free in plain;
+        went =
+            went-more (free (freedBy r a) a) now {n = 4080 + 6} (omega arith)
+            (went-finish (free (freedBy r a) a) now more _
+            (went-timing (free (freedBy r a) a) now (t3From now) _ (let-out (freedBy r a) a few plain)));
+        silent = λ z. absurd (z refl);
+        exact = ((λ q. fits-some r h e), (λ q. refl));
+      })
+      (λ e. closed (anS r) wrongReceiveNumber (λ z. omega arith) ((λ z. absurd (omega arith)), (λ k. absurd (not-fitting r h e k))))
+
+  stepped-i : (n r : ℕ) (more : Bool) → r ≤ 32767 → Stepped (anI n r) now a (stepI n r more now a)
+  unfolding stepI
+  stepped-i n r more h =
+      by-test (eqb n (onWire (a .received)))
+      (λ t.
+      by-test (fits r a)
+      (λ e. unfold accept in record {
+        base = free (freedBy r a) (count a);
+        steps = freedBy r a;
+        settings = unfold free count in refl;
+        sent = unfold free count in refl;
+        received = unfold free count in refl;
+        confirmed = unfold free count in refl;
+        counted = unfold free count in refl;
+        upto = unfold free count in upto-fits r e;
+        times = unfold free count in refl;
+        waiting = unfold free count in sym (append-nil (a .waiting));
+        plain = unfold free count in plain;
+        went =
+            went-more (free (freedBy r a) (count a)) now {n = 4080 + 6} (omega arith)
+            (went-finish (free (freedBy r a) (count a)) now more _
+            (went-timing (free (freedBy r a) (count a)) now (t3From now) _
+            (went-timing (free (freedBy r a) (count a)) now (t2From now) _ (let-out (freedBy r a) (count a) (unfold count in few) (unfold count in plain)))));
+        silent = λ z. absurd (z refl);
+        exact = ((λ q. (fits-some r h e, eqb-true _ _ t)), (λ q. refl));
+      })
+      (λ e. closed (anI n r) wrongReceiveNumber (λ z. omega arith) ((λ z. absurd (omega arith)), (λ k. absurd (not-fitting r h e (k .0))))))
+      (λ t. closed (anI n r) wrongSendNumber (λ z. omega arith) ((λ z. absurd (omega arith)), (λ k. absurd (eqb-false _ _ t (k .1)))))
+
+  -- ---- U frames, stop, test, tick
+
+  stopped : {n : ℕ} (p : Progress) → n ≤ 4096 → Went n a now p → Stepped other now a (accept false (change (stopLink now) p))
+  stopped p h w =
+      let t = went-timing a now (t3From now) p w in
+      let c = went-quiet a now _ (setClock now (timing (t3From now) (p .link))) (quiet-clock now (timing (t3From now) (p .link))) t in
+      accepted-other false _ h (went-quiet a now _ (stopLink now (p .link)) (quiet-ended 0 (setClock now (timing (t3From now) (p .link)))) c)
+
+  stepped-u : (u : UFrame) (more : Bool) → Stepped other now a (stepU u more now a)
+  unfolding stepU
+  stepped-u u more =
+      by-test (eqb (uOctet u) testAct)
+      (λ t. accepted-other false _ (omega arith) (went-finish a now more _ (went-timing a now (t3From now) _ (went-u a now _ (begin a) (went-begin a now)))))
+      (λ t.
+      by-test (eqb (uOctet u) testCon)
+      (λ t.
+      accepted-other false _ (omega arith)
+      (went-finish a now more _ (went-timing a now (t3From now) _ (went-timing a now testAnswered (begin a) (went-begin a now)))))
+      (λ t.
+      by-test (eqb (uOctet u) stopAct)
+      (λ t. stopped _ (omega arith) (went-u a now _ (begin a) (went-begin a now)))
+      (λ t.
+      by-test (eqb (uOctet u) stopCon)
+      (λ t. stopped (begin a) (omega arith) (went-begin a now))
+      (λ t. closed-other uNotAnswered))))
+
+  stepped-stop : Stepped other now a (stepStop now a)
+  unfolding stepStop
+  stepped-stop =
+      accepted-other false _ (omega arith)
+      (went-finish a now false _ (went-timing a now (t1uFrom now) _ (went-confirm a now _ (went-u a now _ (begin a) (went-begin a now)))))
+
+  stepped-test : Stepped other now a (stepTest now a)
+  unfolding stepTest
+  stepped-test =
+      by-test (manyOpen a) (λ t. closed-other tooManyTests)
+      (λ t. accepted-other false _ (omega arith) (went-finish a now false _ (went-test a now (begin a) (went-begin a now))))
+
+  stepped-tick : Stepped other now a (stepTick now a)
+  unfolding stepTick tickT2 tickT3
+  stepped-tick =
+      by-test (eqb (tickNumber now a) 0)
+      (λ t.
+      let second = went-pick a now (isDue (a .timers .t2) now) (went-confirm a now (begin a) (went-begin a now)) (went-more a now (omega arith) (went-begin a now)) in
+      let third = went-pick a now (isDue (a .timers .t3) now) (went-test a now _ second) (went-more a now (omega arith) second) in
+      accepted-other false _ (omega arith) (went-finish a now false _ third))
+      (λ t. closed-other (tickNumber now a))
+
+  -- ---- send
+
+  -- with the window open none waits
+  none-waits : isOpen a ≡ true → a .waiting ≡ []
+  unfolding isOpen
+  none-waits t = nothing (a .waiting) (λ some. let f = within .only-full some in let l = ltb-true (outstanding a) (a .settings .k) t in omega arith)
+    where
+      nothing : (xs : List (List ℕ)) → (0 < length xs → ⊥) → xs ≡ []
+      nothing [] h = refl
+      nothing (x ∷ xs) h = absurd (h (omega arith))
+
+  plain-last : (xs : List (List ℕ)) (x : List ℕ) → AllPlain xs → plainAnswer x ≡ PlainAnswer.Plain → AllPlain (xs ++ (x ∷ []))
+  plain-last [] x h p = (p, tt)
+  plain-last (y ∷ ys) x h p = (h .0, plain-last ys x (h .1) p)
+
+  taken-plain : {n : ℕ} (x : List ℕ) (p : Progress) → plainAnswer x ≡ PlainAnswer.Plain → n ≤ 4096 → Went n (queue x a) now p
+      → Stepped (anAsdu x) now a (accept false p)
+  unfolding accept
+  taken-plain x p e h w =
+      record {
+        base = queue x a;
+        steps = 0;
+        settings = unfold queue in refl;
+        sent = unfold queue in refl;
+        received = unfold queue in refl;
+        confirmed = unfold queue in refl;
+        counted = unfold queue in sym (add-zero (a .confirmed));
+        upto = unfold queue in within .confirmed;
+        times = unfold queue in refl;
+        waiting = unfold queue in refl;
+        plain = unfold queue in plain-last (a .waiting) x plain e;
+        went = went-more (queue x a) now h w;
+        silent = λ z. absurd (z refl);
+        exact = tt;
+      }
+
+  stepped-plain : (x : List ℕ) → plainAnswer x ≡ PlainAnswer.Plain → Stepped (anAsdu x) now a (stepPlain x now a)
+  unfolding stepPlain
+  stepped-plain x e =
+      by-test (isOpen a)
+      (λ t. taken-plain x _ e (omega arith) (went-finish (queue x a) now false _ (at-once (none-waits t))))
+      (λ t.
+      by-test (leb (a .settings .p) (length (a .waiting)))
+      (λ u. refused x queueFull (λ z. omega arith))
+      (λ u. taken-plain x _ e (omega arith) (went-finish (queue x a) now false _ (went-begin (queue x a) now))))
+    where
+      at-once : a .waiting ≡ [] → Went 255 (queue x a) now (sendOut now x (a .waiting) (begin a))
+      at-once none = unfold queue sendOut sendOne in went-more (queue x a) now (omega arith) (went-out (queue x a) now x (a .waiting) (begin (queue x a)) (rw none) e (went-begin (queue x a) now))
+
+  stepped-send : (x : List ℕ) (p : PlainAnswer) → plainAnswer x ≡ p → Stepped (anAsdu x) now a (stepSend p x now a)
+  unfolding stepSend
+  stepped-send x PlainAnswer.Plain e = stepped-plain x e
+  stepped-send x PlainAnswer.Reserved e = refused x notPlainForm (λ z. omega arith)
+  stepped-send x (PlainAnswer.Refused r) e = refused x (r .0) (told (eqb (readRefusal x) 0) (plainBy (headerAnswer x) x) refl (unfold plainAnswer in e))
+    where
+      told : (b c : Bool) → eqb (readRefusal x) 0 ≡ b
+          → pick b (pick c PlainAnswer.Plain PlainAnswer.Reserved) (PlainAnswer.Refused (refusal (readRefusal x))) ≡ PlainAnswer.Refused r → r .0 ≡ 0 → ⊥
+      told true true g h z = let w : _≡_ {A = ℕ} 0 1 = cc in omega arith
+      told true false g h z = let w : _≡_ {A = ℕ} 0 1 = cc in omega arith
+      told false c g h z = let w : refusal (readRefusal x) ≡ r = cc in eqb-false _ _ g (ap (λ (q : Refusal). q .0) w ∙ z)
+
+  -- ---- any call
+
+  stepped-frame : (f : FrameAnswer) (more : Bool) → numberOf (framed f) ≤ 32767 → Stepped (framed f) now a (stepFrame f more now a)
+  unfolding stepFrame
+  stepped-frame (FrameAnswer.I n r) more h = stepped-i (n .0) (r .0) more h
+  stepped-frame (FrameAnswer.S r) more h = stepped-s (r .0) more h
+  stepped-frame (FrameAnswer.U u) more h = stepped-u u more
+  stepped-frame (FrameAnswer.Refused r) more h = closed-other (r .0)
+
+  pub stepped : (e : Event) → numberOf (brings e) ≤ 32767 → Stepped (brings e) now a (step e now a)
+  unfolding step
+  stepped (frame f more) h = stepped-frame (frameAnswer f) more h
+  stepped (send x) h = stepped-send x (plainAnswer x) refl
+  stepped stop h = stepped-stop
+  stepped test h = stepped-test
+  stepped tick h = stepped-tick

@@ -1,0 +1,179 @@
+-- The bytes of frames that are handed out, cut and read again: each frame, its numbers and its ASDU. Assumes nothing.
+use Prim.Native.Nat.{ℕ, zero, suc, _+_, _%_, _≤_}
+use mathlib.Core.Path.{_≡_, refl, sym, ap, subst, _∙_}
+use mathlib.Core.List.{List, [], _∷_, _++_, append-assoc}
+use native.Mathlib.Omega.{arith}
+use native.Mathlib.Nat.{add-zero}
+use borrow.Author.Tests.{le-ltb}
+use lib.ListN.{length, length-append}
+use lib.Seq.{take-at, drop-at}
+use Rattle.laws.specs.Numbers.{leOctets}
+use Rattle.asdu.specs.Reading.{readRefusal}
+use Rattle.asdu.specs.Plain.{plainAnswer, plainNumber}
+use Rattle.asdu.specs.declared.PlainAnswer.the-variants as PlainAnswer
+use Rattle.apdu.specs.Control.{sendNumber, receiveNumber}
+use Rattle.apdu.specs.Reading.{frameAnswer, asduPart}
+use Rattle.apdu.specs.Writing.{iOctets, sOctets, uOctets}
+use Rattle.apdu.specs.declared.frame.FrameAnswer.{FrameAnswer}
+use Rattle.apdu.specs.declared.frame.FrameAnswer.the-variants as FrameAnswer
+use Rattle.apdu.proofs.Answers.{i-long}
+use Rattle.assembly.specs.Start.{startRefusal, sight, startAnswer}
+use Rattle.assembly.specs.Streams.{rest, Outcome, handed, outcomeBy, streamFrom}
+use Rattle.assembly.specs.declared.start.StartAnswer.{StartAnswer}
+use Rattle.assembly.specs.declared.start.StartAnswer.the-variants.{Whole}
+use Rattle.assembly.proofs.Sights.{enough-whole, longer-whole}
+use Rattle.link.specs.Frames.{Frame, iFrame, sFrame, uFrame, octetsOf, wire}
+use Rattle.link_meaning.proofs.Sizes.{plain-sized}
+use Rattle.promises.specs.Demand3.{iFramesIn, asdusIn, Numbered}
+use Rattle.promises.proofs.Answered.{answers}
+use Rattle.promises.proofs.FrameBack.{i-reads, part-is, s-reads, frame-reads-back}
+
+-- ---- one frame
+
+-- numbers of 15 bits, and an ASDU of plain form
+abbrev Fit : Frame → Type 0
+Fit (iFrame s r x) = (s ≤ 32767) × (r ≤ 32767) × (plainAnswer x ≡ PlainAnswer.Plain)
+Fit (sFrame r) = r ≤ 32767
+Fit (uFrame u) = Unit {0}
+
+abbrev readAs : Frame → FrameAnswer
+readAs (iFrame s r x) = FrameAnswer.I (sendNumber s) (receiveNumber r)
+readAs (sFrame r) = FrameAnswer.S (receiveNumber r)
+readAs (uFrame u) = FrameAnswer.U u
+
+plain-reads : (x : List ℕ) → plainAnswer x ≡ PlainAnswer.Plain → readRefusal x ≡ 0
+plain-reads x e = sym (answers .telling x) ∙ ap plainNumber e
+
+reads : (f : Frame) → Fit f → frameAnswer (octetsOf f) ≡ readAs f
+unfolding octetsOf
+reads (iFrame s r x) h = let z = plain-sized x (h .2) in i-reads s r x (h .0) (h .1) (omega (arith, z .0)) (plain-reads x (h .2))
+reads (sFrame r) h = s-reads r h
+reads (uFrame u) h = frame-reads-back .u u
+
+part : (s r : ℕ) (x : List ℕ) → Fit (iFrame s r x) → asduPart (octetsOf (iFrame s r x)) ≡ x
+unfolding octetsOf
+part s r x h = part-is s r x (reads (iFrame s r x) h)
+
+-- six octets without an ASDU; with one, at most 255
+pub s-six : (r : ℕ) → length (octetsOf (sFrame r)) ≡ 6
+unfolding octetsOf sOctets leOctets
+s-six r = refl
+
+pub u-six : (u : _) → length (octetsOf (uFrame u)) ≡ 6
+unfolding octetsOf uOctets leOctets
+u-six u = refl
+
+pub i-most : (s r : ℕ) (x : List ℕ) → plainAnswer x ≡ PlainAnswer.Plain → length (octetsOf (iFrame s r x)) ≤ 255
+unfolding octetsOf
+i-most s r x e = let z = plain-sized x e in omega (arith, i-long s r x, z .1)
+
+-- ---- cutting
+
+no-refusal : (n : ℕ) → n ≤ 249 → startRefusal 104 (4 + n) ≡ 0
+unfolding startRefusal
+no-refusal n h = rw (le-ltb 253 (4 + n) (omega arith), le-ltb (4 + n) 4 (omega arith))
+
+starts : (f : Frame) → Fit f → startAnswer (octetsOf f) ≡ Whole (length (octetsOf f))
+unfolding octetsOf
+starts (iFrame s r x) h =
+    let z = plain-sized x (h .2) in
+    let long = i-long s r x in
+    unfold iOctets in
+    enough-whole _ 104 (4 + length x) (omega (arith, long)) (no-refusal (length x) (z .1)) (omega (arith, long)) ∙ ap Whole (omega (arith, long))
+starts (sFrame r) h = unfold sOctets leOctets sight startRefusal in refl
+starts (uFrame u) h = unfold uOctets leOctets sight startRefusal in refl
+
+abbrev AllFit : List Frame → Type 0
+AllFit [] = Unit {0}
+AllFit (f ∷ fs) = Fit f × AllFit fs
+
+abbrev pub each : List Frame → List (List ℕ)
+each [] = []
+each (f ∷ fs) = octetsOf f ∷ each fs
+
+some-octets : (f : Frame) → Fit f → 6 ≤ length (octetsOf f)
+unfolding octetsOf
+some-octets (iFrame s r x) h = omega (arith, i-long s r x)
+some-octets (sFrame r) h = let e = s-six r in omega arith
+some-octets (uFrame u) h = let e = u-six u in omega arith
+
+abbrev allOf : List Frame → Outcome
+allOf fs = record { frames = each fs; end = rest [] }
+
+cuts-wire : (fs : List Frame) → AllFit fs → (most at : ℕ) → length (wire fs) ≤ most → streamFrom most at (wire fs) ≡ allOf fs
+unfolding wire
+cuts-wire [] h zero at l = refl
+cuts-wire [] h (suc most) at l = unfold sight in refl
+cuts-wire (f ∷ fs) h zero at l = absurd (omega (arith, some-octets f (h .0), length-append (octetsOf f) (wire fs)))
+cuts-wire (f ∷ fs) h (suc most) at l =
+    let n = length (octetsOf f) in
+    let s = octetsOf f ++ wire fs in
+    let e : startAnswer s ≡ Whole n = longer-whole (octetsOf f) (wire fs) n (starts f (h .0)) in
+    let next = cuts-wire fs (h .1) most (at + n) (omega (arith, some-octets f (h .0), length-append (octetsOf f) (wire fs))) in
+    ap (λ (a : StartAnswer). outcomeBy a at s (streamFrom most)) e
+    ∙ (rw (take-at (octetsOf f) (wire fs) n refl, drop-at (octetsOf f) (wire fs) n refl) (ap (handed (octetsOf f)) next))
+
+-- ---- frames with their numbers
+
+-- s I frames went out before, and r were accepted
+abbrev pub Carrying : ℕ → ℕ → List Frame → Type 0
+Carrying s r [] = Unit {0}
+Carrying s r (iFrame n m x ∷ fs) = (n ≡ s % 32768) × (m ≡ r % 32768) × (plainAnswer x ≡ PlainAnswer.Plain) × Carrying (s + 1) r fs
+Carrying s r (sFrame m ∷ fs) = (m ≡ r % 32768) × Carrying s r fs
+Carrying s r (uFrame u ∷ fs) = Carrying s r fs
+
+-- the ASDUs of the I frames
+abbrev pub sentIn : List Frame → List (List ℕ)
+sentIn [] = []
+sentIn (iFrame s r x ∷ fs) = x ∷ sentIn fs
+sentIn (sFrame r ∷ fs) = sentIn fs
+sentIn (uFrame u ∷ fs) = sentIn fs
+
+low : (n : ℕ) → n % 32768 ≤ 32767
+low n = omega arith
+
+all-fit : (s r : ℕ) (fs : List Frame) → Carrying s r fs → AllFit fs
+all-fit s r [] h = tt
+all-fit s r (iFrame n m x ∷ fs) h = ((omega (arith, low s, h .0), omega (arith, low r, h .1), h .2), all-fit (s + 1) r fs (h .3))
+all-fit s r (sFrame m ∷ fs) h = (omega (arith, low r, h .0), all-fit s r fs (h .1))
+all-fit s r (uFrame u ∷ fs) h = (tt, all-fit s r fs h)
+
+pub cuts-out : (s r : ℕ) (fs : List Frame) → Carrying s r fs → (most : ℕ) → length (wire fs) ≤ most → streamFrom most 0 (wire fs) ≡ allOf fs
+cuts-out s r fs h most l = cuts-wire fs (all-fit s r fs h) most 0 l
+
+pub asdus-out : (s r : ℕ) (fs : List Frame) → Carrying s r fs → asdusIn (iFramesIn (each fs)) ≡ sentIn fs
+asdus-out s r fs h = go fs (all-fit s r fs h)
+  where
+    go : (gs : List Frame) → AllFit gs → asdusIn (iFramesIn (each gs)) ≡ sentIn gs
+    go [] f = refl
+    go (iFrame n m x ∷ gs) f =
+        let rest-is = go gs (f .1) in
+        rw (reads (iFrame n m x) (f .0)) (λ i. part n m x (f .0) i ∷ rest-is i)
+    go (sFrame m ∷ gs) f = rw (reads (sFrame m) (f .0)) (go gs (f .1))
+    go (uFrame u ∷ gs) f = rw (reads (uFrame u) (f .0)) (go gs (f .1))
+
+pub numbers-out : (s r : ℕ) (fs : List Frame) → Carrying s r fs → Numbered s r (each fs)
+numbers-out s r [] h = tt
+numbers-out s r (iFrame n m x ∷ fs) h =
+    rw (reads (iFrame n m x) (all-fit s r (iFrame n m x ∷ fs) h .0)) ((h .0, h .1), numbers-out (s + 1) r fs (h .3))
+numbers-out s r (sFrame m ∷ fs) h = rw (reads (sFrame m) (all-fit s r (sFrame m ∷ fs) h .0)) (h .0, numbers-out s r fs (h .1))
+numbers-out s r (uFrame u ∷ fs) h = rw (reads (uFrame u) tt) (tt, numbers-out s r fs h)
+
+-- ---- frames after others
+
+pub carry-append : (s r t : ℕ) (fs gs : List Frame) → t ≡ s + length (sentIn fs) → Carrying s r fs → Carrying t r gs → Carrying s r (fs ++ gs)
+carry-append s r t [] gs e h k = subst (λ (n : ℕ). Carrying n r gs) (e ∙ add-zero s) k
+carry-append s r t (iFrame n m x ∷ fs) gs e h k = (h .0, h .1, h .2, carry-append (s + 1) r t fs gs (omega arith) (h .3) k)
+carry-append s r t (sFrame m ∷ fs) gs e h k = (h .0, carry-append s r t fs gs e (h .1) k)
+carry-append s r t (uFrame u ∷ fs) gs e h k = carry-append s r t fs gs e h k
+
+pub sent-append : (fs gs : List Frame) → sentIn (fs ++ gs) ≡ sentIn fs ++ sentIn gs
+sent-append [] gs = refl
+sent-append (iFrame n m x ∷ fs) gs = ap (λ (l : List (List ℕ)). x ∷ l) (sent-append fs gs)
+sent-append (sFrame m ∷ fs) gs = sent-append fs gs
+sent-append (uFrame u ∷ fs) gs = sent-append fs gs
+
+pub wire-append : (fs gs : List Frame) → wire (fs ++ gs) ≡ wire fs ++ wire gs
+unfolding wire
+wire-append [] gs = refl
+wire-append (f ∷ fs) gs = ap (λ (l : List ℕ). octetsOf f ++ l) (wire-append fs gs) ∙ sym (append-assoc (octetsOf f) (wire fs) (wire gs))
