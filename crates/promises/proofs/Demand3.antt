@@ -216,6 +216,55 @@ module _ (s : Settings) (e : Entry) (past : List Entry) (a : Abstract) (r : Resu
         plain = plain-rest out (r .link .waiting) (subst AllPlain (st .went .waiting) (st .plain));
       }
 
+-- ---- what a link that agrees with a transcript has
+
+-- the place in a ring of the oldest
+first-of : (f : ℕ → ℕ) (m p n : ℕ) → p < m → 0 < n → getD (ring f m p n) 0 0 ≡ f p
+unfolding ring
+first-of f m p n h some =
+    getD-tabulate (λ (i : ℕ). f ((p + i) % m)) 0 n 0 0 some ∙ ap f (ap (λ (k : ℕ). k % m) (add-zero p) ∙ mod-eq-of-lt h)
+
+module _ (s : Settings) (past : List Entry) (l : Link) (between : List ℕ) (a : Abstract) (g : Agrees l between a) (c : Counted s past a) where
+  abbrev held : ℕ
+  held = l .state .window .held
+
+  k-is : l .state .settings .k ≡ s .k
+  k-is = ap (λ (x : Settings). x .k) (g .means .settings ∙ c .settings)
+
+  outstanding : held + A past ≡ S past
+  outstanding = omega (arith, g .means .held, c .sent, c .confirmed)
+
+  at-most-k : held ≤ s .k
+  at-most-k = let h = sound-state l (g .sound) .held-k in omega (arith, k-is)
+
+  oldest : 0 < held → getD (l .times) (l .state .window .first) 0 ≡ getD (sendTimes past) (A past) 0
+  unfolding timesOf
+  oldest some =
+      let first = sound-state l (g .sound) .first-high in
+      let places = g .shaped .times in
+      sym (first-of (λ (q : ℕ). getD (l .times) q 0) (length (l .times)) (l .state .window .first) held (omega arith) some)
+      ∙ (ap (λ (x : List ℕ). getD x 0 0) (g .means .send-times ∙ c .times)
+      ∙ (getD-drop (A past) (sendTimes past) 0 0 ∙ ap (λ (k : ℕ). getD (sendTimes past) k 0) (add-zero (A past))))
+
+  in-order : taken past ≡ haveLeft past ++ waitingOf (l .state .queue) between
+  in-order = rw (g .means .waiting) (c .order)
+
+  only-full : 0 < length (waitingOf (l .state .queue) between) → held ≡ s .k
+  only-full some =
+      let more : 0 < length (a .waiting) = (rw (g .means .waiting) at some) in
+      let full = g .within .only-full more in
+      omega (arith, g .means .held, k-is, ap (λ (x : Settings). x .k) (c .settings))
+
+  -- fewer than 32,768 are outstanding, so a number has one total
+  narrow : S past - A past < 32768
+  narrow = let h = sound-state l (g .sound) .held-k in let k = sound-state l (g .sound) .k-high in omega (arith, outstanding)
+
+  law : (r : ℕ) → r < 32768 → WindowLaw 32768 (A past) (S past) r
+  law r h = window 32768 (A past) (S past) r (omega (arith, outstanding)) narrow h
+
+  is-next : (r b : ℕ) → Confirms 32768 (A past) (S past) r b → b ≡ A past + freed 32768 (A past) r
+  is-next r b k = let e = k .remainder in law r (omega arith) .one b k
+
 -- ---- a run
 
 -- the run of totals and lists beside it
@@ -273,62 +322,8 @@ module _ (s : Settings) (start : ℕ) (pool : List ℕ) (past : List Entry) (l :
   unfolding next
   next-link = refl
 
-pub known : (s : Settings) (start : ℕ) (pool : List ℕ) (past : List Entry) (l : Link) (between : List ℕ) → Run s start pool past l between → Known s start pool past l between
-known s start pool past l between (opening e) = record { link = fresh s start; run = totals.opening e; counted = counted-none s start }
-known s start pool past l between (after {past = q} {l = m} {between = b} before c o free) = next s start pool q m b (known s start pool q m b before) c o free
+  -- ---- the claim
 
--- ---- the claim
-
--- the place in a ring of the oldest
-first-of : (f : ℕ → ℕ) (m p n : ℕ) → p < m → 0 < n → getD (ring f m p n) 0 0 ≡ f p
-unfolding ring
-first-of f m p n h some =
-    getD-tabulate (λ (i : ℕ). f ((p + i) % m)) 0 n 0 0 some ∙ ap f (ap (λ (k : ℕ). k % m) (add-zero p) ∙ mod-eq-of-lt h)
-
--- a link that agrees with what a transcript counts
-module _ (s : Settings) (past : List Entry) (l : Link) (between : List ℕ) (a : Abstract) (g : Agrees l between a) (c : Counted s past a) where
-  abbrev held : ℕ
-  held = l .state .window .held
-
-  k-is : l .state .settings .k ≡ s .k
-  k-is = ap (λ (x : Settings). x .k) (g .means .settings ∙ c .settings)
-
-  outstanding : held + A past ≡ S past
-  outstanding = omega (arith, g .means .held, c .sent, c .confirmed)
-
-  at-most-k : held ≤ s .k
-  at-most-k = let h = sound-state l (g .sound) .held-k in omega (arith, k-is)
-
-  oldest : 0 < held → getD (l .times) (l .state .window .first) 0 ≡ getD (sendTimes past) (A past) 0
-  unfolding timesOf
-  oldest some =
-      let first = sound-state l (g .sound) .first-high in
-      let places = g .shaped .times in
-      sym (first-of (λ (q : ℕ). getD (l .times) q 0) (length (l .times)) (l .state .window .first) held (omega arith) some)
-      ∙ (ap (λ (x : List ℕ). getD x 0 0) (g .means .send-times ∙ c .times)
-      ∙ (getD-drop (A past) (sendTimes past) 0 0 ∙ ap (λ (k : ℕ). getD (sendTimes past) k 0) (add-zero (A past))))
-
-  in-order : taken past ≡ haveLeft past ++ waitingOf (l .state .queue) between
-  in-order = rw (g .means .waiting) (c .order)
-
-  only-full : 0 < length (waitingOf (l .state .queue) between) → held ≡ s .k
-  only-full some =
-      let more : 0 < length (a .waiting) = (rw (g .means .waiting) at some) in
-      let full = g .within .only-full more in
-      omega (arith, g .means .held, k-is, ap (λ (x : Settings). x .k) (c .settings))
-
-  -- fewer than 32,768 are outstanding, so a number has one total
-  narrow : S past - A past < 32768
-  narrow = let h = sound-state l (g .sound) .held-k in let k = sound-state l (g .sound) .k-high in omega (arith, outstanding)
-
-  law : (r : ℕ) → r < 32768 → WindowLaw 32768 (A past) (S past) r
-  law r h = window 32768 (A past) (S past) r (omega (arith, outstanding)) narrow h
-
-  is-next : (r b : ℕ) → Confirms 32768 (A past) (S past) r b → b ≡ A past + freed 32768 (A past) r
-  is-next r b k = let e = k .remainder in law r (omega arith) .one b k
-
-module _ (s : Settings) (start : ℕ) (pool : List ℕ) (past : List Entry) (l : Link) (between : List ℕ) (k : Known s start pool past l between) (c : Call) (o : OctetsIn (c .event))
-    (free : callRefusal l (length (c .output)) (length between) (c .now) ≡ 0) where
   abbrev e : Entry
   e = entryOf c l between
 
@@ -338,27 +333,14 @@ module _ (s : Settings) (start : ℕ) (pool : List ℕ) (past : List Entry) (l :
   abbrev pool′ : List ℕ
   pool′ = poolAfter c l between
 
-  -- before the call, and after it
-  was : Agrees l between (k .link)
-  was = runs-agree s start pool l between (k .link) (k .run)
-
-  after-it : Known s start pool (e ∷ past) l′ pool′
-  after-it = next s start pool past l between k c o free
-
-  is : Agrees l′ pool′ (after-it .link)
-  is = runs-agree s start pool l′ pool′ (after-it .link) (after-it .run)
-
-  did : Stepped (brings (c .event)) (c .now) (k .link) (step (c .event) (c .now) (k .link))
-  did = done s start pool past l between k c o free
+  still : Agrees l′ pool′ (next .link)
+  still = runs-agree s start pool l′ pool′ (next .link) (next .run)
 
   exact : Exact (brings (c .event)) (e .number) (S past) (A past) (R past)
-  exact =
-      let n = entry-number s start pool past l between k c o free in
-      let d = k .counted in
-      rw (n, ← d .sent, ← d .confirmed, ← d .received) (did .exact)
+  exact = let d = k .counted in rw (entry-number, ← d .sent, ← d .confirmed, ← d .received) (done .exact)
 
   single : (r b : ℕ) → Confirms 32768 (A past) (S past) r b → b ≡ A past + freed 32768 (A past) r
-  single = is-next s past l between (k .link) was (k .counted)
+  single = is-next s past l between (k .link) agrees (k .counted)
 
   becomes : (r : ℕ) → confirmedBy (brings (c .event)) (A past) ≡ A past + freed 32768 (A past) r → (b : ℕ) → e .number ≡ 0 → Confirms 32768 (A past) (S past) r b
       → A (e ∷ past) ≡ b
@@ -366,23 +348,29 @@ module _ (s : Settings) (start : ℕ) (pool : List ℕ) (past : List Entry) (l :
 
   claim : Claim s e past l′ pool′
   claim =
-      let d = after-it .counted in
+      let a = next .link in
+      let d = next .counted in
       record {
         s-accepted = λ r h. subst (λ (b : Brought). Exact b (e .number) (S past) (A past) (R past)) h exact;
         i-accepted = λ n r h. subst (λ (b : Brought). Exact b (e .number) (S past) (A past) (R past)) h exact;
         unique = λ r x y p q. single r x p ∙ sym (single r y q);
         s-becomes = λ r x h z f. becomes r (ap (λ (b : Brought). confirmedBy b (A past)) h) x z f;
         i-becomes = λ n r x h z f. becomes r (ap (λ (b : Brought). confirmedBy b (A past)) h) x z f;
-        numbers =
-            numbers s e past (k .link) _ (k .counted) did (entry-number s start pool past l between k c o free) (entry-bytes s start pool past l between k c o free);
-        whole = ends s e past (k .link) _ (k .counted) did (entry-number s start pool past l between k c o free) (entry-bytes s start pool past l between k c o free);
-        outstanding = outstanding s (e ∷ past) l′ pool′ (after-it .link) is d;
-        at-most-k = at-most-k s (e ∷ past) l′ pool′ (after-it .link) is d;
-        oldest = oldest s (e ∷ past) l′ pool′ (after-it .link) is d;
+        numbers = numbers s e past (k .link) result (k .counted) done entry-number entry-bytes;
+        whole = ends s e past (k .link) result (k .counted) done entry-number entry-bytes;
+        outstanding = outstanding s (e ∷ past) l′ pool′ a still d;
+        at-most-k = at-most-k s (e ∷ past) l′ pool′ a still d;
+        oldest = oldest s (e ∷ past) l′ pool′ a still d;
         timed = d .timed;
-        in-order = in-order s (e ∷ past) l′ pool′ (after-it .link) is d;
-        only-full = only-full s (e ∷ past) l′ pool′ (after-it .link) is d;
+        in-order = in-order s (e ∷ past) l′ pool′ a still d;
+        only-full = only-full s (e ∷ past) l′ pool′ a still d;
       }
+
+-- ---- every run
+
+pub known : (s : Settings) (start : ℕ) (pool : List ℕ) (past : List Entry) (l : Link) (between : List ℕ) → Run s start pool past l between → Known s start pool past l between
+known s start pool past l between (opening e) = record { link = fresh s start; run = totals.opening e; counted = counted-none s start }
+known s start pool past l between (after {past = q} {l = m} {between = b} before c o free) = next s start pool q m b (known s start pool q m b before) c o free
 
 pub demand-3 : Demand3
 demand-3 s start pool past l between (opening e) = tt

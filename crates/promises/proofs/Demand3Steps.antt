@@ -48,29 +48,29 @@ pub record Went (n : ℕ) (a : Abstract) (now : ℕ) (p : Progress) : Type 0 whe
   pub carries : Carrying (a .sent) (a .received) (p .frames)
   pub size : length (wire (p .frames)) ≤ n
 
--- nothing that is counted differs
-record Quiet (q a : Abstract) : Type 0 where
-  settings : q .settings ≡ a .settings
-  received : q .received ≡ a .received
-  confirmed : q .confirmed ≡ a .confirmed
-  sent : q .sent ≡ a .sent
-  times : q .times ≡ a .times
-  waiting : q .waiting ≡ a .waiting
+-- what a transcript counts of a link
+record Counts : Type 0 where
+  settings : Settings
+  sent : ℕ
+  received : ℕ
+  confirmed : ℕ
+  times : List ℕ
+  waiting : List (List ℕ)
 
-quiet-timing : (f : Settings → Timers → Timers) (a : Abstract) → Quiet (timing f a) a
+abbrev counts : Abstract → Counts
+counts a = record { settings = a .settings; sent = a .sent; received = a .received; confirmed = a .confirmed; times = a .times; waiting = a .waiting }
+
+quiet-timing : (f : Settings → Timers → Timers) (a : Abstract) → counts (timing f a) ≡ counts a
 unfolding timing
-quiet-timing f a = record { settings = refl; received = refl; confirmed = refl; sent = refl; times = refl; waiting = refl }
+quiet-timing f a = refl
 
-quiet-clock : (now : ℕ) (a : Abstract) → Quiet (setClock now a) a
-quiet-clock now a = record { settings = refl; received = refl; confirmed = refl; sent = refl; times = refl; waiting = refl }
-
-quiet-settle : (a : Abstract) → Quiet (settle a) a
+quiet-settle : (a : Abstract) → counts (settle a) ≡ counts a
 unfolding settle
-quiet-settle a = record { settings = refl; received = refl; confirmed = refl; sent = refl; times = refl; waiting = refl }
+quiet-settle a = refl
 
-quiet-ended : (n : ℕ) (a : Abstract) → Quiet (ended n a) a
+quiet-ended : (n : ℕ) (a : Abstract) → counts (ended n a) ≡ counts a
 unfolding ended
-quiet-ended n a = record { settings = refl; received = refl; confirmed = refl; sent = refl; times = refl; waiting = refl }
+quiet-ended n a = refl
 
 -- ASDUs of plain form
 abbrev pub AllPlain : List (List ℕ) → Type 0
@@ -106,15 +106,16 @@ module _ (a : Abstract) (now : ℕ) where
         size = omega arith;
       }
 
-  went-quiet : {n : ℕ} (p : Progress) (q : Abstract) → Quiet q (p .link) → Went n a now p → Went n a now (record { link = q; frames = p .frames })
-  went-quiet p q s w =
+  -- the link changes in nothing that is counted
+  went-quiet : {n : ℕ} (p : Progress) (q : Abstract) → counts q ≡ counts (p .link) → Went n a now p → Went n a now (record { link = q; frames = p .frames })
+  went-quiet p q e w =
       record {
-        settings = s .settings ∙ w .settings;
-        received = s .received ∙ w .received;
-        confirmed = s .confirmed ∙ w .confirmed;
-        sent = s .sent ∙ w .sent;
-        times = s .times ∙ w .times;
-        waiting = w .waiting ∙ ap (λ (l : List (List ℕ)). sentIn (p .frames) ++ l) (sym (s .waiting));
+        settings = ap (λ (c : Counts). c .settings) e ∙ w .settings;
+        received = ap (λ (c : Counts). c .received) e ∙ w .received;
+        confirmed = ap (λ (c : Counts). c .confirmed) e ∙ w .confirmed;
+        sent = ap (λ (c : Counts). c .sent) e ∙ w .sent;
+        times = ap (λ (c : Counts). c .times) e ∙ w .times;
+        waiting = w .waiting ∙ ap (λ (c : Counts). sentIn (p .frames) ++ c .waiting) (sym e);
         carries = w .carries;
         size = w .size;
       }
@@ -166,7 +167,7 @@ module _ (a : Abstract) (now : ℕ) where
   went-finish : {n : ℕ} (more : Bool) (p : Progress) → Went n a now p → Went (n + 6) a now (finish more now p)
   unfolding finish
   went-finish more p w =
-      let c = went-quiet p (setClock now (p .link)) (quiet-clock now (p .link)) w in
+      let c = went-quiet p (setClock now (p .link)) refl w in
       went-pick (mustConfirm (p .link) more) (went-confirm _ c) (went-more (omega arith) c)
 
   -- ---- I frames
@@ -264,7 +265,7 @@ module _ (now : ℕ) (a : Abstract) (within : Within a) (few : length (a .waitin
       }
 
   -- one that is refused, and leaves what is counted
-  stepped-refused : (b : Brought) (r : Result) → (r .refused ≡ 0 → ⊥) → r .frames ≡ [] → Quiet (r .link) a
+  stepped-refused : (b : Brought) (r : Result) → (r .refused ≡ 0 → ⊥) → r .frames ≡ [] → counts (r .link) ≡ counts a
       → Exact b (r .refused) (a .sent) (a .confirmed) (a .received) → Stepped b now a r
   stepped-refused b r some none q exact =
       let z : eqb (r .refused) 0 ≡ false = ne-eqb (r .refused) 0 some in
@@ -301,7 +302,7 @@ module _ (now : ℕ) (a : Abstract) (within : Within a) (few : length (a .waitin
   refused : (x : List ℕ) (n : ℕ) → (n ≡ 0 → ⊥) → Stepped (anAsdu x) now a (refuse n a)
   unfolding refuse
   refused x n some =
-      stepped-refused (anAsdu x) (refuse n a) some refl (record { settings = refl; received = refl; confirmed = refl; sent = refl; times = refl; waiting = refl }) tt
+      stepped-refused (anAsdu x) (refuse n a) some refl refl tt
 
   by-test : {b : Brought} (t : Bool) {p q : Result} → (t ≡ true → Stepped b now a p) → (t ≡ false → Stepped b now a q) → Stepped b now a (pick t p q)
   by-test true f g = f refl
@@ -332,57 +333,52 @@ module _ (now : ℕ) (a : Abstract) (within : Within a) (few : length (a .waitin
   unfolding letting free
   let-out d b l p = went-flush (free d b) now 0 4080 (b .waiting) (begin (free d b)) (omega arith) refl p (went-begin (free d b) now)
 
+  -- an accepted number: x is the link with the frame counted
+  stepped-number : (b : Brought) (r : ℕ) (x : Abstract) (came : Bool) (p : Progress)
+      → counts x ≡ record { settings = a .settings; sent = a .sent; received = receivedBy b (a .received); confirmed = a .confirmed; times = a .times; waiting = a .waiting }
+      → confirmedBy b (a .confirmed) ≡ a .confirmed + freedBy r a → takenBy b ≡ [] → fits r a ≡ true → Exact b 0 (a .sent) (a .confirmed) (a .received)
+      → Went 4086 (free (freedBy r a) x) now p → Stepped b now a (accept came p)
+  unfolding accept free
+  stepped-number b r x came p e number none f exact w =
+      let confirmed = ap (λ (c : Counts). c .confirmed + freedBy r a) e in
+      let waiting = ap (λ (c : Counts). c .waiting) e in
+      record {
+        base = free (freedBy r a) x;
+        steps = freedBy r a;
+        settings = ap (λ (c : Counts). c .settings) e;
+        sent = ap (λ (c : Counts). c .sent) e;
+        received = ap (λ (c : Counts). c .received) e;
+        confirmed = confirmed ∙ sym number;
+        counted = confirmed;
+        upto = rw confirmed (upto-fits r f);
+        times = ap (λ (c : Counts). drop (freedBy r a) (c .times)) e;
+        waiting = rw none (waiting ∙ sym (append-nil (a .waiting)));
+        plain = rw waiting plain;
+        went = went-more (free (freedBy r a) x) now (omega arith) w;
+        silent = λ z. absurd (z refl);
+        exact = exact;
+      }
+
   stepped-s : (r : ℕ) (more : Bool) → r ≤ 32767 → Stepped (anS r) now a (stepS r more now a)
   unfolding stepS
   stepped-s r more h =
+      let out = free (freedBy r a) a in
       by-test (fits r a)
-      (λ e. unfold accept in record {
-        base = free (freedBy r a) a;
-        steps = freedBy r a;
-        settings = unfold free in refl;
-        sent = unfold free in refl;
-        received = unfold free in refl;
-        confirmed = unfold free in refl;
-        counted = unfold free in refl;
-        upto = unfold free in upto-fits r e;
-        times = unfold free in refl;
-        waiting = unfold free in sym (append-nil (a .waiting));
-        plain = unfold free in plain;
-        went =
-            went-more (free (freedBy r a) a) now {n = 4080 + 6} (omega arith)
-            (went-finish (free (freedBy r a) a) now more _
-            (went-timing (free (freedBy r a) a) now (t3From now) _ (let-out (freedBy r a) a few plain)));
-        silent = λ z. absurd (z refl);
-        exact = ((λ q. fits-some r h e), (λ q. refl));
-      })
+      (λ e.
+      stepped-number (anS r) r a false _ refl refl refl e ((λ q. fits-some r h e), (λ q. refl))
+      (went-finish out now more _ (went-timing out now (t3From now) _ (let-out (freedBy r a) a few plain))))
       (λ e. closed (anS r) wrongReceiveNumber (λ z. omega arith) ((λ z. absurd (omega arith)), (λ k. absurd (not-fitting r h e k))))
 
   stepped-i : (n r : ℕ) (more : Bool) → r ≤ 32767 → Stepped (anI n r) now a (stepI n r more now a)
-  unfolding stepI
+  unfolding stepI count
   stepped-i n r more h =
+      let out = free (freedBy r a) (count a) in
       by-test (eqb n (onWire (a .received)))
       (λ t.
       by-test (fits r a)
-      (λ e. unfold accept in record {
-        base = free (freedBy r a) (count a);
-        steps = freedBy r a;
-        settings = unfold free count in refl;
-        sent = unfold free count in refl;
-        received = unfold free count in refl;
-        confirmed = unfold free count in refl;
-        counted = unfold free count in refl;
-        upto = unfold free count in upto-fits r e;
-        times = unfold free count in refl;
-        waiting = unfold free count in sym (append-nil (a .waiting));
-        plain = unfold free count in plain;
-        went =
-            went-more (free (freedBy r a) (count a)) now {n = 4080 + 6} (omega arith)
-            (went-finish (free (freedBy r a) (count a)) now more _
-            (went-timing (free (freedBy r a) (count a)) now (t3From now) _
-            (went-timing (free (freedBy r a) (count a)) now (t2From now) _ (let-out (freedBy r a) (count a) (unfold count in few) (unfold count in plain)))));
-        silent = λ z. absurd (z refl);
-        exact = ((λ q. (fits-some r h e, eqb-true _ _ t)), (λ q. refl));
-      })
+      (λ e.
+      stepped-number (anI n r) r (count a) true _ refl refl refl e ((λ q. (fits-some r h e, eqb-true _ _ t)), (λ q. refl))
+      (went-finish out now more _ (went-timing out now (t3From now) _ (went-timing out now (t2From now) _ (let-out (freedBy r a) (count a) few plain)))))
       (λ e. closed (anI n r) wrongReceiveNumber (λ z. omega arith) ((λ z. absurd (omega arith)), (λ k. absurd (not-fitting r h e (k .0))))))
       (λ t. closed (anI n r) wrongSendNumber (λ z. omega arith) ((λ z. absurd (omega arith)), (λ k. absurd (eqb-false _ _ t (k .1)))))
 
@@ -391,7 +387,7 @@ module _ (now : ℕ) (a : Abstract) (within : Within a) (few : length (a .waitin
   stopped : {n : ℕ} (p : Progress) → n ≤ 4096 → Went n a now p → Stepped other now a (accept false (change (stopLink now) p))
   stopped p h w =
       let t = went-timing a now (t3From now) p w in
-      let c = went-quiet a now _ (setClock now (timing (t3From now) (p .link))) (quiet-clock now (timing (t3From now) (p .link))) t in
+      let c = went-quiet a now _ (setClock now (timing (t3From now) (p .link))) refl t in
       accepted-other false _ h (went-quiet a now _ (stopLink now (p .link)) (quiet-ended 0 (setClock now (timing (t3From now) (p .link)))) c)
 
   stepped-u : (u : UFrame) (more : Bool) → Stepped other now a (stepU u more now a)
