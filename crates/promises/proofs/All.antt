@@ -2,7 +2,7 @@
 use Rattle.promises.specs.Asdus.{AsduLevel}
 use Rattle.promises.specs.Frames.{FrameLevel}
 use Rattle.promises.specs.Streams.{StreamLevel}
-use Rattle.promises.specs.Demand3.{Demand3Level}
+use Rattle.promises.specs.Demand3Runs.{Demand3Level}
 use Rattle.promises.proofs.ReadBack.{reads-back}
 use Rattle.promises.proofs.WriteAgain.{writes-again}
 use Rattle.promises.proofs.Tells.{tells}

@@ -4,7 +4,7 @@ use mathlib.Core.Path.{_≡_, refl, sym, ap, subst, _∙_}
 use mathlib.Core.Bool.{Bool, true, false}
 use mathlib.Core.List.{List, [], _∷_, _++_, append-assoc}
 use native.Mathlib.Omega.{arith}
-use native.Mathlib.Nat.{add-zero, le-refl, mod-eq-of-lt}
+use native.Mathlib.Nat.{add-zero, mod-eq-of-lt}
 use borrow.Author.Tests.{eqb-true, eqb-false, eq-eqb}
 use lib.ListN.{length, take, drop, getD, replicate, length-append, length-replicate}
 use lib.Seq.{sets, take-at, drop-drop, drop-append-le, getD-drop}
@@ -38,10 +38,10 @@ use Rattle.link_meaning.specs.Runs.{Agrees}
 use Rattle.link_meaning.specs.Runs as totals
 use Rattle.link_meaning.proofs.Meaning.{steps-alike}
 use Rattle.link_meaning.proofs.Runs.{runs-agree}
-use Rattle.promises.specs.Demand3.{Call, outcomeOf, answered, poolAfter, Entry, entryOf, Run, opening, after, cut, iFramesIn, iFrames, S, sendTimes, asdusIn, haveLeft, Brought, framed, brings, confirmedBy, R, A, takenBy, taken, Numbered, Claim, Demand3}
+use Rattle.promises.specs.Demand3.{Call, outcomeOf, answered, poolAfter, Entry, entryOf, Run, opening, after, cut, iFramesIn, iFrames, allHanded, S, sendTimes, asdusIn, haveLeft, Brought, framed, brings, confirmedBy, R, A, takenBy, taken, Numbered, Claim, Demand3}
 use Rattle.promises.proofs.FrameAgain.{Shape, i-shape, s-shape, u-shape, refused-shape, shape}
 use Rattle.promises.proofs.Demand3Pool.{pool-is}
-use Rattle.promises.proofs.Demand3Wire.{each, sentIn, cuts-out, asdus-out, numbers-out}
+use Rattle.promises.proofs.Demand3Wire.{AllFit, allOf, each, sentIn, stream-wire, all-fit, asdus-out, numbers-out, fit-append, each-append, kept-append, wire-append}
 use Rattle.promises.proofs.Demand3Steps.{AllPlain, Exact, Stepped, numberOf, stepped}
 
 -- ---- what a frame brings
@@ -106,10 +106,28 @@ pub record Counted (s : Settings) (past : List Entry) (a : Abstract) : Type 0 wh
   pub timed : length (sendTimes past) ≡ S past
   pub order : taken past ≡ haveLeft past ++ a .waiting
   pub plain : AllPlain (a .waiting)
+  pub frames : List Frame
+  pub fit : AllFit frames
+  pub bytes : allHanded past ≡ wire frames
+  pub kept : iFrames past ≡ iFramesIn (each frames)
 
 pub counted-none : (s : Settings) (start : ℕ) → Counted s [] (fresh s start)
-unfolding fresh
-counted-none s start = record { settings = refl; sent = refl; received = refl; confirmed = refl; times = refl; timed = refl; order = refl; plain = tt }
+unfolding fresh wire
+counted-none s start =
+    record {
+      settings = refl;
+      sent = refl;
+      received = refl;
+      confirmed = refl;
+      times = refl;
+      timed = refl;
+      order = refl;
+      plain = tt;
+      frames = [];
+      fit = tt;
+      bytes = refl;
+      kept = refl;
+    }
 
 asdus-append : (fs gs : List (List ℕ)) → asdusIn (fs ++ gs) ≡ asdusIn fs ++ asdusIn gs
 asdus-append [] gs = refl
@@ -129,9 +147,11 @@ module _ (s : Settings) (e : Entry) (past : List Entry) (a : Abstract) (r : Resu
   out : List (List ℕ)
   out = sentIn (r .frames)
 
-  streamed : stream (e .handed) ≡ record { frames = each (r .frames); end = rest [] }
-  unfolding stream
-  streamed = rw bytes (cuts-out (st .base .sent) (st .base .received) (r .frames) (st .went .carries) (length (wire (r .frames))) (le-refl _))
+  fit : AllFit (r .frames)
+  fit = all-fit (st .base .sent) (st .base .received) (r .frames) (st .went .carries)
+
+  streamed : stream (e .handed) ≡ allOf (r .frames)
+  streamed = ap stream bytes ∙ stream-wire (r .frames) fit
 
   cut-is : cut (e .handed) ≡ each (r .frames)
   cut-is = ap (λ (o : Outcome). o .frames) streamed
@@ -214,6 +234,10 @@ module _ (s : Settings) (e : Entry) (past : List Entry) (a : Abstract) (r : Resu
         timed = timed;
         order = order;
         plain = plain-rest out (r .link .waiting) (subst AllPlain (st .went .waiting) (st .plain));
+        frames = c .frames ++ r .frames;
+        fit = fit-append (c .frames) (r .frames) (c .fit) fit;
+        bytes = rw (c .bytes, bytes) (sym (wire-append (c .frames) (r .frames)));
+        kept = rw (c .kept, cut-is, each-append (c .frames) (r .frames)) (sym (kept-append (each (c .frames)) (each (r .frames))));
       }
 
 -- ---- what a link that agrees with a transcript has
@@ -254,6 +278,9 @@ module _ (s : Settings) (past : List Entry) (l : Link) (between : List ℕ) (a :
       let more : 0 < length (a .waiting) = (rw (g .means .waiting) at some) in
       let full = g .within .only-full more in
       omega (arith, g .means .held, k-is, ap (λ (x : Settings). x .k) (c .settings))
+
+  one-stream : iFramesIn (cut (allHanded past)) ≡ iFrames past
+  one-stream = ap (λ (o : Outcome). iFramesIn (o .frames)) (ap stream (c .bytes) ∙ stream-wire (c .frames) (c .fit)) ∙ sym (c .kept)
 
   -- fewer than 32,768 are outstanding, so a number has one total
   narrow : S past - A past < 32768
@@ -358,6 +385,7 @@ module _ (s : Settings) (start : ℕ) (pool : List ℕ) (past : List Entry) (l :
         i-becomes = λ n r x h z f. becomes r (ap (λ (b : Brought). confirmedBy b (A past)) h) x z f;
         numbers = numbers s e past (k .link) result (k .counted) done entry-number entry-bytes;
         whole = ends s e past (k .link) result (k .counted) done entry-number entry-bytes;
+        one-stream = one-stream s (e ∷ past) l′ pool′ a still d;
         outstanding = outstanding s (e ∷ past) l′ pool′ a still d;
         at-most-k = at-most-k s (e ∷ past) l′ pool′ a still d;
         oldest = oldest s (e ∷ past) l′ pool′ a still d;

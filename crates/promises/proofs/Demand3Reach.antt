@@ -21,7 +21,8 @@ use Rattle.link_meaning.specs.Abstract.{Abstract, Progress, fresh, isOpen, free
 use Rattle.link_meaning.specs.Meaning.{OctetsIn}
 use Rattle.link_meaning.specs.Runs as totals
 use Rattle.link_meaning.proofs.Runs.{runs-agree}
-use Rattle.promises.specs.Demand3.{Call, answered, poolAfter, Entry, entryOf, Run, opening, after, A, small, first, Reached}
+use Rattle.promises.specs.Demand3.{Call, answered, poolAfter, Entry, entryOf, Run, opening, after, A}
+use Rattle.promises.specs.Demand3Runs.{small, first, Reached}
 use Rattle.promises.proofs.FrameBack.{s-reads}
 use Rattle.promises.proofs.Demand3.{Known, next, next-link, counted-none}
 use Rattle.promises.proofs.Demand3Runs.{goes-on}

@@ -15,7 +15,8 @@ use Rattle.link.specs.Events.{refusing, called}
 use Rattle.link.specs.Contracts.{calledOf}
 use Rattle.link_meaning.proofs.Kept.{stays-sound}
 use Rattle.link_meaning.proofs.Runs.{runs-agree}
-use Rattle.promises.specs.Demand3.{Entry, Run, opening, after, outcomeOf, Covers, GoesOn}
+use Rattle.promises.specs.Demand3.{Entry, Run, opening, after, outcomeOf}
+use Rattle.promises.specs.Demand3Runs.{Covers, GoesOn}
 use Rattle.promises.proofs.Demand3Pool.{pool-is}
 use Rattle.promises.proofs.Demand3.{number-is, known}
 

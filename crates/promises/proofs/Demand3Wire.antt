@@ -3,7 +3,7 @@ use Prim.Native.Nat.{ℕ, zero, suc, _+_, _%_, _≤_}
 use mathlib.Core.Path.{_≡_, refl, sym, ap, subst, _∙_}
 use mathlib.Core.List.{List, [], _∷_, _++_, append-assoc}
 use native.Mathlib.Omega.{arith}
-use native.Mathlib.Nat.{add-zero}
+use native.Mathlib.Nat.{add-zero, le-refl}
 use borrow.Author.Tests.{le-ltb}
 use lib.ListN.{length, length-append}
 use lib.Seq.{take-at, drop-at}
@@ -14,24 +14,25 @@ use Rattle.asdu.specs.declared.PlainAnswer.the-variants as PlainAnswer
 use Rattle.apdu.specs.Control.{sendNumber, receiveNumber}
 use Rattle.apdu.specs.Reading.{frameAnswer, asduPart}
 use Rattle.apdu.specs.Writing.{iOctets, sOctets, uOctets}
+use Rattle.apdu.specs.declared.frame.UFrame.{UFrame}
 use Rattle.apdu.specs.declared.frame.FrameAnswer.{FrameAnswer}
 use Rattle.apdu.specs.declared.frame.FrameAnswer.the-variants as FrameAnswer
 use Rattle.apdu.proofs.Answers.{i-long}
 use Rattle.assembly.specs.Start.{startRefusal, sight, startAnswer}
-use Rattle.assembly.specs.Streams.{rest, Outcome, handed, outcomeBy, streamFrom}
+use Rattle.assembly.specs.Streams.{rest, Outcome, handed, outcomeBy, streamFrom, stream}
 use Rattle.assembly.specs.declared.start.StartAnswer.{StartAnswer}
 use Rattle.assembly.specs.declared.start.StartAnswer.the-variants.{Whole}
 use Rattle.assembly.proofs.Sights.{enough-whole, longer-whole}
 use Rattle.link.specs.Frames.{Frame, iFrame, sFrame, uFrame, octetsOf, wire}
 use Rattle.link_meaning.proofs.Sizes.{plain-sized}
-use Rattle.promises.specs.Demand3.{iFramesIn, asdusIn, Numbered}
+use Rattle.promises.specs.Demand3.{keepI, iFramesIn, asdusIn, Numbered}
 use Rattle.promises.proofs.Answered.{answers}
 use Rattle.promises.proofs.FrameBack.{i-reads, part-is, s-reads, frame-reads-back}
 
 -- ---- one frame
 
 -- numbers of 15 bits, and an ASDU of plain form
-abbrev Fit : Frame → Type 0
+abbrev pub Fit : Frame → Type 0
 Fit (iFrame s r x) = (s ≤ 32767) × (r ≤ 32767) × (plainAnswer x ≡ PlainAnswer.Plain)
 Fit (sFrame r) = r ≤ 32767
 Fit (uFrame u) = Unit {0}
@@ -59,7 +60,7 @@ pub s-six : (r : ℕ) → length (octetsOf (sFrame r)) ≡ 6
 unfolding octetsOf sOctets leOctets
 s-six r = refl
 
-pub u-six : (u : _) → length (octetsOf (uFrame u)) ≡ 6
+pub u-six : (u : UFrame) → length (octetsOf (uFrame u)) ≡ 6
 unfolding octetsOf uOctets leOctets
 u-six u = refl
 
@@ -83,7 +84,7 @@ starts (iFrame s r x) h =
 starts (sFrame r) h = unfold sOctets leOctets sight startRefusal in refl
 starts (uFrame u) h = unfold uOctets leOctets sight startRefusal in refl
 
-abbrev AllFit : List Frame → Type 0
+abbrev pub AllFit : List Frame → Type 0
 AllFit [] = Unit {0}
 AllFit (f ∷ fs) = Fit f × AllFit fs
 
@@ -97,7 +98,7 @@ some-octets (iFrame s r x) h = omega (arith, i-long s r x)
 some-octets (sFrame r) h = let e = s-six r in omega arith
 some-octets (uFrame u) h = let e = u-six u in omega arith
 
-abbrev allOf : List Frame → Outcome
+abbrev pub allOf : List Frame → Outcome
 allOf fs = record { frames = each fs; end = rest [] }
 
 cuts-wire : (fs : List Frame) → AllFit fs → (most at : ℕ) → length (wire fs) ≤ most → streamFrom most at (wire fs) ≡ allOf fs
@@ -112,6 +113,10 @@ cuts-wire (f ∷ fs) h (suc most) at l =
     let next = cuts-wire fs (h .1) most (at + n) (omega (arith, some-octets f (h .0), length-append (octetsOf f) (wire fs))) in
     ap (λ (a : StartAnswer). outcomeBy a at s (streamFrom most)) e
     ∙ (rw (take-at (octetsOf f) (wire fs) n refl, drop-at (octetsOf f) (wire fs) n refl) (ap (handed (octetsOf f)) next))
+
+pub stream-wire : (fs : List Frame) → AllFit fs → stream (wire fs) ≡ allOf fs
+unfolding stream
+stream-wire fs h = cuts-wire fs h (length (wire fs)) 0 (le-refl _)
 
 -- ---- frames with their numbers
 
@@ -132,14 +137,11 @@ sentIn (uFrame u ∷ fs) = sentIn fs
 low : (n : ℕ) → n % 32768 ≤ 32767
 low n = omega arith
 
-all-fit : (s r : ℕ) (fs : List Frame) → Carrying s r fs → AllFit fs
+pub all-fit : (s r : ℕ) (fs : List Frame) → Carrying s r fs → AllFit fs
 all-fit s r [] h = tt
 all-fit s r (iFrame n m x ∷ fs) h = ((omega (arith, low s, h .0), omega (arith, low r, h .1), h .2), all-fit (s + 1) r fs (h .3))
 all-fit s r (sFrame m ∷ fs) h = (omega (arith, low r, h .0), all-fit s r fs (h .1))
 all-fit s r (uFrame u ∷ fs) h = (tt, all-fit s r fs h)
-
-pub cuts-out : (s r : ℕ) (fs : List Frame) → Carrying s r fs → (most : ℕ) → length (wire fs) ≤ most → streamFrom most 0 (wire fs) ≡ allOf fs
-cuts-out s r fs h most l = cuts-wire fs (all-fit s r fs h) most 0 l
 
 pub asdus-out : (s r : ℕ) (fs : List Frame) → Carrying s r fs → asdusIn (iFramesIn (each fs)) ≡ sentIn fs
 asdus-out s r fs h = go fs (all-fit s r fs h)
@@ -160,6 +162,19 @@ numbers-out s r (sFrame m ∷ fs) h = rw (reads (sFrame m) (all-fit s r (sFrame 
 numbers-out s r (uFrame u ∷ fs) h = rw (reads (uFrame u) tt) (tt, numbers-out s r fs h)
 
 -- ---- frames after others
+
+pub fit-append : (fs gs : List Frame) → AllFit fs → AllFit gs → AllFit (fs ++ gs)
+fit-append [] gs h k = k
+fit-append (f ∷ fs) gs h k = (h .0, fit-append fs gs (h .1) k)
+
+pub each-append : (fs gs : List Frame) → each (fs ++ gs) ≡ each fs ++ each gs
+each-append [] gs = refl
+each-append (f ∷ fs) gs = ap (λ (l : List (List ℕ)). octetsOf f ∷ l) (each-append fs gs)
+
+pub kept-append : (xs ys : List (List ℕ)) → iFramesIn (xs ++ ys) ≡ iFramesIn xs ++ iFramesIn ys
+kept-append [] ys = refl
+kept-append (x ∷ xs) ys =
+    ap (λ (l : List (List ℕ)). keepI (frameAnswer x) x ++ l) (kept-append xs ys) ∙ sym (append-assoc (keepI (frameAnswer x) x) (iFramesIn xs) (iFramesIn ys))
 
 pub carry-append : (s r t : ℕ) (fs gs : List Frame) → t ≡ s + length (sentIn fs) → Carrying s r fs → Carrying t r gs → Carrying s r (fs ++ gs)
 carry-append s r t [] gs e h k = subst (λ (n : ℕ). Carrying n r gs) (e ∙ add-zero s) k

@@ -3,7 +3,7 @@
 -- out, the nows and the numbers answered. Nothing is taken from the record or the pool to count.
 use Prim.Native.Nat.{ℕ, _+_, _%_, _<_, _≤_}
 use mathlib.Core.Path.{_≡_}
-use mathlib.Core.Bool.{Bool, false}
+use mathlib.Core.Bool.{Bool}
 use mathlib.Core.List.{List, [], _∷_, _++_}
 use mathlib.Core.Logic.{_↔_}
 use lib.ListN.{length, take, getD, replicate}
@@ -103,6 +103,11 @@ iFramesIn (f ∷ fs) = keepI (frameAnswer f) f ++ iFramesIn fs
 abbrev pub iFrames : List Entry → List (List ℕ)
 iFrames [] = []
 iFrames (e ∷ past) = iFrames past ++ iFramesIn (cut (e .handed))
+
+-- all bytes handed out, one after the other: what the other side gets
+abbrev pub allHanded : List Entry → List ℕ
+allHanded [] = []
+allHanded (e ∷ past) = allHanded past ++ e .handed
 
 abbrev pub S : List Entry → ℕ
 S past = length (iFrames past)
@@ -218,6 +223,8 @@ pub record Claim (s : Settings) (e : Entry) (past : List Entry) (l : Link) (pool
   -- in hand." What is handed out is whole frames, and no byte is left over.
   pub numbers : Numbered (S past) (R (e ∷ past)) (cut (e .handed))
   pub whole : stream (e .handed) .end ≡ rest []
+  -- S is the same where all that was handed out is cut as one stream
+  pub one-stream : iFramesIn (cut (allHanded (e ∷ past))) ≡ iFrames (e ∷ past)
   -- "After every call S − A frames are outstanding"
   pub outstanding : l .state .window .held + A (e ∷ past) ≡ S (e ∷ past)
   -- "at most k"
@@ -238,74 +245,3 @@ Claimed s (e ∷ past) l pool = Claim s e past l pool
 
 abbrev pub Demand3 : Type 0
 Demand3 = (s : Settings) (start : ℕ) (pool : List ℕ) (past : List Entry) (l : Link) (between : List ℕ) → Run s start pool past l between → Claimed s past l between
-
--- ---- there are such runs
-
--- Every call whose answer is no number from 19 to 24 may follow in a run: what `after` asks for shuts out nothing else.
-abbrev pub Covers : Type 0
-Covers = (c : Call) (l : Link) (pool : List ℕ) → (19 ≤ entryOf c l pool .number → entryOf c l pool .number ≤ 24 → ⊥)
-    → callRefusal l (length (c .output)) (length pool) (c .now) ≡ 0
-
--- Whatever was called so far, as long as the link is not closed, a call with an output of 4,096 bytes or more and a now from the
--- clock on, up to 2^48 − 1, is not refused under 19 to 24: a run goes on with any event.
-abbrev pub GoesOn : Type 0
-GoesOn = (s : Settings) (start : ℕ) (pool : List ℕ) (past : List Entry) (l : Link) (between : List ℕ) → Run s start pool past l between
-    → 3984 ≤ length pool → l .state .status .closed ≡ false → (output now : ℕ) → 4096 ≤ output → l .state .clock ≤ now → now ≤ 281474976710655
-    → callRefusal l output (length between) now ≡ 0
-
--- A run with k = 1, the last call first: an ASDU goes out at 10; the next waits, for the window is full; an I frame comes,
--- and nothing can go out; an S frame confirms the first, and what waited goes out at 40 with the numbers 1 and 1; then a receive
--- number that fits no total closes the link.
-abbrev pub small : Settings
-small = record { k = 1; w = 8; p = 2; t1 = 15000; t2 = 10000; t3 = 20000 }
-
-abbrev pub first : List ℕ
-first = 0x0F ∷ 0x01 ∷ 0x03 ∷ 0x00 ∷ 0x01 ∷ 0x00 ∷ 0x0A ∷ 0x00 ∷ 0x00 ∷ 0xE8 ∷ 0x03 ∷ 0x00 ∷ 0x00 ∷ 0x05 ∷ []
-
-abbrev pub second : List ℕ
-second = 0x0F ∷ 0x01 ∷ 0x03 ∷ 0x00 ∷ 0x01 ∷ 0x00 ∷ 0x0B ∷ 0x00 ∷ 0x00 ∷ 0xD0 ∷ 0x07 ∷ 0x00 ∷ 0x00 ∷ 0x05 ∷ []
-
-abbrev pub iWith : ℕ → ℕ → List ℕ → List ℕ
-iWith sent received asdu = 0x68 ∷ 0x12 ∷ sent ∷ 0x00 ∷ received ∷ 0x00 ∷ asdu
-
-abbrev pub sWith : ℕ → List ℕ
-sWith received = 0x68 ∷ 0x04 ∷ 0x01 ∷ 0x00 ∷ received ∷ 0x00 ∷ []
-
-abbrev pub shown : List Entry
-shown =
-    record { event = frame (sWith 0x06) false; now = 50; number = 27; handed = [] }
-    ∷ record { event = frame (sWith 0x02) false; now = 40; number = 0; handed = iWith 0x02 0x02 second }
-    ∷ record { event = frame (iWith 0x00 0x00 first) false; now = 30; number = 0; handed = [] }
-    ∷ record { event = send second; now = 20; number = 0; handed = [] }
-    ∷ record { event = send first; now = 10; number = 0; handed = iWith 0x00 0x00 first }
-    ∷ []
-
--- it is a run, and what it counts
-pub record Shown : Type 0 where
-  pub link : Link
-  pub pool : List ℕ
-  pub run : Run small 0 (replicate 3984 0) shown link pool
-  pub sent : S shown ≡ 2
-  pub received : R shown ≡ 1
-  pub confirmed : A shown ≡ 1
-  pub times : sendTimes shown ≡ 10 ∷ 40 ∷ []
-  pub have-left : haveLeft shown ≡ first ∷ second ∷ []
-
--- For every n there is a run that hands out n I frames and has each of them confirmed. So runs have any length, and the totals
--- go on where the numbers begin again: the frame with the total 32,769 goes out with the number 0.
-pub record Reached (n : ℕ) : Type 0 where
-  pub past : List Entry
-  pub link : Link
-  pub pool : List ℕ
-  pub run : Run small 0 (replicate 3984 0) past link pool
-  pub sent : S past ≡ n
-  pub confirmed : A past ≡ n
-
--- ---- all of it
-
-pub record Demand3Level : Type 0 where
-  pub claims : Demand3
-  pub covers : Covers
-  pub goes-on : GoesOn
-  pub shows : Shown
-  pub reaches : (n : ℕ) → Reached n

@@ -4,3 +4,4 @@ pub mod Cases
 pub mod Streams
 pub mod Settled
 pub mod Demand3
+pub mod Demand3Runs
