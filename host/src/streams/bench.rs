@@ -10,11 +10,14 @@ use crate::{
 };
 
 const ROUNDS: u32 = 40;
-const STREAM_SIZE: usize = 1_000_000;
 const CHUNKS: [usize; 3] = [1, 64, 1_460];
 
-/// S frames, and I frames with 1, 5, 30 and 48 counters, in turn.
-fn stream() -> Vec<u8> {
+/// The stream is timed in pieces that are shorter than a turn of the processor: the best round of each counts.
+const PIECES: usize = 57;
+const BLOCKS_OF_A_PIECE: usize = 30;
+
+/// An S frame, and I frames with 1, 30, 5 and 48 counters, over and over: a piece of the stream.
+fn piece() -> Vec<u8> {
     let frames = [
         layout::frame(layout::s_control(3), &[]),
         counters(1, false),
@@ -22,14 +25,7 @@ fn stream() -> Vec<u8> {
         counters(5, false),
         counters(48, true),
     ];
-    let mut octets = Vec::new();
-    for frame in frames.iter().cycle() {
-        if octets.len() + frame.len() > STREAM_SIZE {
-            break;
-        }
-        octets.extend_from_slice(frame);
-    }
-    octets
+    frames.concat().repeat(BLOCKS_OF_A_PIECE)
 }
 
 /// The frames of the stream, each given to `take`; how many there are.
@@ -99,21 +95,20 @@ const ROWS: [(&str, fn(&[u8])); 3] = [
     ("assemble, read to a record", read),
 ];
 
-/// Milliseconds for the stream, and how many frames were had.
+/// Milliseconds, and how many frames were had.
 fn timed(work: impl FnOnce() -> usize) -> (f64, usize) {
     let started = Instant::now();
     let frames = work();
     (started.elapsed().as_secs_f64() * 1e3, frames)
 }
 
-/// The best round of each of the three.
-fn best(stream: &[u8], size: usize, take: fn(&[u8])) -> [f64; 3] {
-    let mut out = vec![0; stream.len()];
+/// The best round of each of the three on a piece.
+fn best(piece: &[u8], out: &mut [u8], size: usize, take: fn(&[u8])) -> [f64; 3] {
     let mut best = [f64::INFINITY; 3];
     for _ in 0..ROUNDS {
-        let (ours, frames) = timed(|| assembled(stream, size, take));
-        let (rust, rust_frames) = timed(|| assembled_by_rust(stream, size));
-        let (copy, _) = timed(|| copied(stream, size, &mut out));
+        let (ours, frames) = timed(|| assembled(piece, size, take));
+        let (rust, rust_frames) = timed(|| assembled_by_rust(piece, size));
+        let (copy, _) = timed(|| copied(piece, size, out));
         assert_eq!(frames, rust_frames);
         best = [best[0].min(ours), best[1].min(rust), best[2].min(copy)];
     }
@@ -121,11 +116,13 @@ fn best(stream: &[u8], size: usize, take: fn(&[u8])) -> [f64; 3] {
 }
 
 pub fn bench() {
-    let stream = stream();
-    let frames = assembled_by_rust(&stream, stream.len());
+    let piece = piece();
+    let stream = piece.repeat(PIECES);
+    let mut out = vec![0; stream.len()];
     println!(
-        "milliseconds for a stream of {} bytes, {frames} frames, the best of {ROUNDS} rounds",
-        stream.len()
+        "milliseconds for a stream of {} bytes, {} frames, in {PIECES} pieces, the best of {ROUNDS} rounds of each",
+        stream.len(),
+        assembled_by_rust(&stream, stream.len())
     );
     println!(
         "{:>8} {:<28} {:>8} {:>8} {:>8} {:>10} {:>10}",
@@ -133,7 +130,10 @@ pub fn bench() {
     );
     for size in CHUNKS {
         for (name, take) in ROWS {
-            let [ours, rust, copy] = best(&stream, size, take);
+            let pieces = stream.chunks(piece.len()).zip(out.chunks_mut(piece.len()));
+            let bests = pieces.map(|(piece, out)| best(piece, out, size, take));
+            let [ours, rust, copy] = bests
+                .fold([0.0; 3], |[a, b, c], [ours, rust, copy]| [a + ours, b + rust, c + copy]);
             println!(
                 "{size:>8} {name:<28} {ours:>8.3} {rust:>8.3} {copy:>8.3} {:>10.3} {:>10.1}",
                 ours / rust,
