@@ -4,8 +4,10 @@ use std::{hint::black_box, time::Instant};
 
 use iec104::apdu::Apdu;
 
+use crate::streams;
+
 /// The exported functions of crates/bench_bridge. A slice goes over as its address and its length.
-mod exported {
+pub mod exported {
     unsafe extern "C" {
         pub fn gb_read(frame: *const u8, len: usize, place: usize) -> u32;
         pub fn gb_check(frame: *const u8, len: usize) -> u32;
@@ -30,7 +32,7 @@ struct Case {
 }
 
 /// An I frame with counters of type 15: send number 2, receive number 3, cause 3, common address 1, addresses from 10 on.
-fn counters(name: &'static str, count: u8, sequence: bool) -> Case {
+pub fn counters(count: u8, sequence: bool) -> Vec<u8> {
     let mut asdu = vec![15, count | u8::from(sequence) << 7, 3, 0, 1, 0];
     for i in 0..count {
         if i == 0 || !sequence {
@@ -44,7 +46,7 @@ fn counters(name: &'static str, count: u8, sequence: bool) -> Case {
     let length = u8::try_from(4 + asdu.len()).expect("at most 253");
     let mut frame = vec![0x68, length, 4, 0, 6, 0];
     frame.append(&mut asdu);
-    Case { name, frame }
+    frame
 }
 
 /// What one of the three does with a frame, so many times.
@@ -162,9 +164,9 @@ pub fn bench() -> bool {
         "frame", "octets", "what", "ours", "Rust", "copy", "ours/Rust", "ours/copy"
     );
     let cases = [
-        counters("1 counter", 1, false),
-        counters("30 counters, plain", 30, false),
-        counters("48 counters in sequence", 48, true),
+        Case { name: "1 counter", frame: counters(1, false) },
+        Case { name: "30 counters, plain", frame: counters(30, false) },
+        Case { name: "48 counters in sequence", frame: counters(48, true) },
     ];
     for Case { name, frame } in &cases {
         for mut row in rows(frame) {
@@ -178,5 +180,6 @@ pub fn bench() -> bool {
             );
         }
     }
+    streams::bench::bench();
     true
 }

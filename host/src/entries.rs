@@ -44,3 +44,5 @@ pub const ANY_TYPE: &str = "D10";
 pub const ANY_KIND: &str = "D11";
 /// A writer that refuses leaves octets behind.
 pub const LEFT_BEHIND: &str = "D12";
+/// A length of 2 or 3 is refused only with the frame's last byte.
+pub const REFUSED_LATE: &str = "D13";

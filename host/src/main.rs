@@ -15,6 +15,7 @@ mod report;
 mod rust;
 mod sample;
 mod show;
+mod streams;
 
 use std::{env, process::ExitCode, time::Instant};
 
@@ -23,7 +24,7 @@ use report::Report;
 
 const USAGE: &str = "grassglisten-host COMMAND
   compare [--quick | --full] [--seed N]   the proved library and the Rust on the same inputs; 1 where they differ
-  bench                                   times the library, the Rust and a plain copy of the same frames
+  bench                                   times the library, the Rust and a plain copy of the same octets
   show ENTRY                              an entry of docs/DIFFERENCES.md: both sides on its smallest inputs
   sample                                  the Rust's answers that crates/replay replays, to standard output
   rust frame HEX | rust asdu HEX          what the Rust reads, and writes again
@@ -81,6 +82,8 @@ fn compare(options: &[&str]) -> Result<bool, String> {
     asdu::compare::compare(&mut report, &mut random, extent);
     let extent = if full { &frames::compare::FULL } else { &frames::compare::QUICK };
     frames::compare::compare(&mut report, &mut random, extent);
+    let extent = if full { &streams::compare::FULL } else { &streams::compare::QUICK };
+    streams::compare::compare(&mut report, &mut random, extent);
     let same = report.close();
     println!("seed {seed}, {:.1} s", started.elapsed().as_secs_f64());
     Ok(same)

@@ -1,6 +1,7 @@
 //! The stored sample: answers of the Rust, which the program crates/replay holds the proved library to where no Rust is
 //! at hand. A line has a letter for the kind, octets given and octets that the Rust answers, in hexadecimal: of an
-//! element or a number eight of each, filled up with zeros; of an ASDU see `asdu::sample`, of a frame `frames::sample`.
+//! element or a number eight of each, filled up with zeros; of an ASDU see `asdu::sample`, of a frame `frames::sample`, of a
+//! stream `streams::sample`.
 //! A small letter reads, a capital writes. Fields are those of `judge`. A number has its high octet first, and a signed
 //! one is moved up by half its range, so that it does not look like its octets on the wire.
 use iec104::types::{MBoNa1, MItNa1, MMeNb1, MMeNc1};
@@ -14,6 +15,7 @@ use crate::{
     numbers::edges,
     octets::{counter_fields, marks_and_state, octets, step_fields},
     random::Random,
+    streams,
 };
 
 const SEED: u64 = 104;
@@ -33,6 +35,7 @@ pub fn write() -> bool {
     }
     lines.push(asdu::sample::lines(&mut random));
     lines.push(frames::sample::lines(&mut random));
+    lines.push(streams::sample::lines(&mut random));
     print!("{}", lines.concat());
     true
 }

@@ -10,6 +10,7 @@ use crate::{
     },
     frames, hex,
     report::Answer,
+    streams::{judge::Reader, proved::Assembler},
 };
 
 /// An ASDU is octets in hexadecimal, and so many of 0 after them.
@@ -30,6 +31,8 @@ pub enum Given {
     WriteU {
         length: u8,
     },
+    /// A stream of these bytes, and no more, in one chunk.
+    Stream(&'static str),
 }
 
 pub struct Shown {
@@ -82,6 +85,7 @@ impl Shown {
             Given::WriteU { length } => {
                 format!("writing the U frame with no marks, of a length given as {length}")
             }
+            Given::Stream(text) => format!("assembling from the bytes {text}"),
         })
     }
 
@@ -99,6 +103,7 @@ impl Shown {
             Given::ReadFrame(text) => told_reading(frames::proved::reading(&octets_of(text, 0))),
             Given::WriteS(number) => told_writing(frames::proved::writing_s(number, ROOM)),
             Given::WriteU { .. } => told_writing(frames::proved::writing_u([0; 6], ROOM)),
+            Given::Stream(text) => format!("{:?}", Assembler::new().feed(&octets_of(text, 0))),
         };
         Answer { given: Told(given), expected: Told(self.ours.to_owned()) }
     }
@@ -116,6 +121,7 @@ impl Shown {
             Given::WriteU { length } => {
                 told_writing(frames::judge::writing_u_with_length(length, [0; 6]))
             }
+            Given::Stream(text) => format!("{:?}", Reader::default().feed(&octets_of(text, 0))),
             Given::Write { type_id, sequence, objects } => {
                 let mut out = Vec::new();
                 match asdu::judge::write_to(&record_of(type_id, sequence, objects), &mut out) {

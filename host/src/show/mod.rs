@@ -12,7 +12,7 @@ use crate::{
 
 /// The levels that the library has.
 fn is_there(level: &str) -> bool {
-    ["octets", "ASDU", "frame"].contains(&level)
+    ["octets", "ASDU", "frame", "assembling"].contains(&level)
 }
 
 pub fn compare(report: &mut Report) {

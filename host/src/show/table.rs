@@ -38,7 +38,7 @@ const fn counter(seq: u8) -> Object {
 /// The cause 0 as one that has no name.
 const OTHER_CAUSE: Object = object(0, 70, 0, 3);
 
-pub const SHOWN: [Shown; 25] = [
+pub const SHOWN: [Shown; 28] = [
     shown(
         "D1",
         Given::Rewrite("0182030001000a00000000"),
@@ -94,4 +94,7 @@ pub const SHOWN: [Shown; 25] = [
     shown("D11", plain(3, &[single_point(10)]), "refuses (16)", "writes 0301030001000a000000"),
     shown("D12", plain(1, &[single_point(0); 128]), "refuses (12)", "refuses (12), leaves 01"),
     shown("D12", Given::WriteU { length: 99 }, "writes 680403000000", "writes 686303000000"),
+    shown("D13", Given::Stream("680200"), "refuses (1)", "needs more"),
+    shown("D13", Given::Stream("680300"), "refuses (1)", "needs more"),
+    shown("D13", Given::Stream("68030000"), "refuses (1)", "needs more"),
 ];
