@@ -1,9 +1,11 @@
 // Lines of the sample: a letter for the kind, octets given, octets told. Of an element or a number there are eight of
-// each. Of an ASDU (`a`, `A`) or a frame (`f`, `F`) the line says how many after its letter, in four digits each.
+// each. Of an ASDU (`a`, `A`), a frame (`f`, `F`) or a stream (`t`) the line says how many after its letter, in four digits
+// each.
 ghost use Prim.Native.Nat.{_≤_};
 use crate::asdus;
 use crate::frames;
 use crate::octets;
+use crate::streams;
 use crate::text;
 use bridge_records::raised;
 
@@ -56,7 +58,7 @@ fn shape_of(line: &[u8]) -> Shape
 {
     let kind = laws::octet_at(line, 0);
     match kind {
-        b'a' | b'A' | b'f' | b'F' => shape_of_asdu(line),
+        b'a' | b'A' | b'f' | b'F' | b't' => shape_of_asdu(line),
         _ => SHAPE_OF_OCTETS,
     }
 }
@@ -107,6 +109,7 @@ fn answers(kind: u8, given: &[u8], told: &[u8]) -> bool {
         b'A' => asdus::writes(given, told),
         b'f' => frames::reads(given, told),
         b'F' => frames::writes(given, told),
+        b't' => streams::steps(given, told),
         _ => octets::agrees(kind, given, told),
     }
 }

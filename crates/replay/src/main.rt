@@ -5,6 +5,7 @@ mod asdus;
 mod frames;
 mod lines;
 mod octets;
+mod streams;
 mod text;
 
 use libc::STDIN_FILENO;
