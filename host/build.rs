@@ -1,5 +1,6 @@
 //! Links the proved library, the archives of `$GRASSGLISTEN_NATIVE`.
-const ARCHIVES: [&str; 4] = ["bridge", "bridge_frames", "bridge_streams", "bench_bridge"];
+const ARCHIVES: [&str; 5] =
+    ["bridge", "bridge_frames", "bridge_streams", "bridge_link", "bench_bridge"];
 
 fn main() {
     println!("cargo:rerun-if-env-changed=GRASSGLISTEN_NATIVE");

@@ -181,5 +181,6 @@ pub fn bench() -> bool {
         }
     }
     streams::bench::bench();
+    crate::link::bench::bench();
     true
 }

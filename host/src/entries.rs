@@ -46,3 +46,5 @@ pub const ANY_KIND: &str = "D11";
 pub const LEFT_BEHIND: &str = "D12";
 /// A length of 2 or 3 is refused only with the frame's last byte.
 pub const REFUSED_LATE: &str = "D13";
+/// An ASDU with reserved bits goes out with other bytes.
+pub const SENT_WITHOUT_RESERVED: &str = "D19";

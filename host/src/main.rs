@@ -5,6 +5,7 @@ mod entries;
 mod frames;
 mod hex;
 mod judge;
+mod link;
 mod numbers;
 mod octets;
 mod panics;
@@ -29,8 +30,8 @@ const USAGE: &str = "grassglisten-host COMMAND
   sample                                  the Rust's answers that crates/replay replays, to standard output
   rust frame HEX | rust asdu HEX          what the Rust reads, and writes again
   rust link WORD..                        what the Rust's link does, event by event: settings k=N w=N p=N t1=MS
-                                          t2=MS t3=MS sent=N received=N, then recv=HEX send=HEX stop test end
-                                          advance=MS skip=MS first=N";
+                                          t2=MS t3=MS sent=N received=N unconfirmed=N, then recv=HEX send=HEX
+                                          stop test end advance=MS skip=MS first=N";
 
 const SEED: u64 = 104;
 const QUICK_NUMBERS: u32 = 1_000_000;
@@ -84,6 +85,7 @@ fn compare(options: &[&str]) -> Result<bool, String> {
     frames::compare::compare(&mut report, &mut random, extent);
     let extent = if full { &streams::compare::FULL } else { &streams::compare::QUICK };
     streams::compare::compare(&mut report, &mut random, extent);
+    link::compare::compare(&mut report, seed, full);
     let same = report.close();
     println!("seed {seed}, {:.1} s", started.elapsed().as_secs_f64());
     Ok(same)

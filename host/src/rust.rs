@@ -10,7 +10,7 @@ use iec104::{
     asdu::Asdu,
     config::ProtocolConfig,
     errors,
-    link::{Event, Link, State},
+    link::{Event, Link, Start, State},
 };
 
 use crate::{hex, panics, refusals};
@@ -68,18 +68,19 @@ fn told(number: Option<u8>) -> String {
 /// A link of the given settings, and a line for each event.
 pub fn link(words: &[&str]) -> Result<bool, String> {
     panic::set_hook(Box::new(|_| {}));
-    let (mut config, mut sent, mut received) = (ProtocolConfig::default(), 0, 0);
+    let (mut config, mut start) = (ProtocolConfig::default(), Start::default());
     let mut words = words.iter().copied().peekable();
     while let Some((setting, value)) = words.peek().and_then(|word| word.split_once('=')) {
         match setting {
-            "sent" => sent = number(value)?,
-            "received" => received = number(value)?,
+            "sent" => start.sent = number(value)?,
+            "received" => start.received = number(value)?,
+            "unconfirmed" => start.unconfirmed = number(value)?,
             _ if set(&mut config, setting, value)? => {}
             _ => break,
         }
         words.next();
     }
-    let mut link = Link::open(&config, sent, received);
+    let mut link = Link::open(&config, start);
     for word in words {
         let step = link.step(event(word)?);
         let state = match step.state {

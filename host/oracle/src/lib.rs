@@ -25,12 +25,14 @@ pub mod receive_handler {
 
     pub mod opened {
         use super::*;
+        use crate::link::Start;
 
         impl<'a, C: ReceiveHandlerCallback> ReceiveHandler<'a, C> {
-            /// As if so many frames had gone and come already, all confirmed.
-            pub fn starting_at(mut self, sent: u16, received: u16) -> Self {
-                self.sent_counter = sent;
-                self.received_counter = received;
+            /// As if so many frames had gone and come already.
+            pub fn starting_at(mut self, start: Start) -> Self {
+                self.sent_counter = start.sent;
+                self.received_counter = start.received;
+                self.unacknowledged_rcv_frames = start.unconfirmed;
                 self
             }
         }

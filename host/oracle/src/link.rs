@@ -92,6 +92,14 @@ struct Seen {
     state: RefCell<State>,
 }
 
+/// Frames that went and came before a link is driven, all confirmed but the last `unconfirmed` of those that came.
+#[derive(Debug, Clone, Copy, Default)]
+pub struct Start {
+    pub sent: u16,
+    pub received: u16,
+    pub unconfirmed: u16,
+}
+
 pub struct Link {
     runtime: Runtime,
     tasks: LocalSet,
@@ -101,8 +109,8 @@ pub struct Link {
 }
 
 impl Link {
-    /// A link just opened, as if so many frames had gone and come already, all confirmed.
-    pub fn open(config: &ProtocolConfig, sent: u16, received: u16) -> Link {
+    /// A link just opened, as if so many frames had gone and come already.
+    pub fn open(config: &ProtocolConfig, start: Start) -> Link {
         select_order::set_first(0);
         let runtime = tokio::runtime::Builder::new_current_thread()
             .enable_time()
@@ -119,8 +127,7 @@ impl Link {
             state: RefCell::new(State::Open),
         });
         let tasks = LocalSet::new();
-        let handler =
-            handle(seen.clone(), config.clone(), (sent, received), ours, received_commands);
+        let handler = handle(seen.clone(), config.clone(), start, ours, received_commands);
         tasks.spawn_local(watch(seen.clone(), handler));
         tasks.spawn_local(collect(seen.clone(), from_handler));
         tasks.block_on(&runtime, settle());
@@ -191,14 +198,14 @@ async fn put_in(
 async fn handle(
     seen: Rc<Seen>,
     config: ProtocolConfig,
-    (sent, received): (u16, u16),
+    start: Start,
     connection: DuplexStream,
     mut commands: mpsc::Receiver<Command>,
 ) -> Result<(), Error> {
     let (mut from, mut to) = tokio::io::split(Connection::Memory(connection));
     let (came, full) = (seen.came.clone(), seen.window_full.clone());
     let handler = ReceiveHandler::new(&mut from, &mut to, came, config, &mut commands, full);
-    handler.starting_at(sent, received).receive_task().await
+    handler.starting_at(start).receive_task().await
 }
 
 async fn watch(seen: Rc<Seen>, handler: impl Future<Output = Result<(), Error>> + 'static) {

@@ -8,7 +8,7 @@ use crate::{
         proved::ROOM,
         record::{Object, Record},
     },
-    frames, hex,
+    frames, hex, link,
     report::Answer,
     streams::{judge::Reader, proved::Assembler},
 };
@@ -33,6 +33,8 @@ pub enum Given {
     },
     /// A stream of these bytes, and no more, in one chunk.
     Stream(&'static str),
+    /// A history of a link.
+    Link(&'static str),
 }
 
 pub struct Shown {
@@ -82,6 +84,7 @@ impl Shown {
             }
             Given::ReadFrame(text) => format!("reading the frame {text}"),
             Given::WriteS(number) => format!("writing the S frame of number {number}"),
+            Given::Link(words) => format!("a link of {words}"),
             Given::WriteU { length } => {
                 format!("writing the U frame with no marks, of a length given as {length}")
             }
@@ -104,6 +107,7 @@ impl Shown {
             Given::WriteS(number) => told_writing(frames::proved::writing_s(number, ROOM)),
             Given::WriteU { .. } => told_writing(frames::proved::writing_u([0; 6], ROOM)),
             Given::Stream(text) => format!("{:?}", Assembler::new().feed(&octets_of(text, 0))),
+            Given::Link(words) => link::shown::ours(words),
         };
         Answer { given: Told(given), expected: Told(self.ours.to_owned()) }
     }
@@ -118,6 +122,7 @@ impl Shown {
                 told_reading(frames::judge::answers(&octets_of(text, 0)).reading)
             }
             Given::WriteS(number) => told_writing(frames::judge::writing_s(number)),
+            Given::Link(words) => link::shown::rust(words),
             Given::WriteU { length } => {
                 told_writing(frames::judge::writing_u_with_length(length, [0; 6]))
             }

@@ -1,28 +1,32 @@
 //! Entries of docs/DIFFERENCES.md by their smallest inputs, with what each side must answer.
-mod given;
+pub mod given;
 mod table;
 
-use given::Told;
-use table::SHOWN;
+use given::{Shown, Told};
 
 use crate::{
     entries::{self, Entry},
+    link,
     report::{Answer, Report},
 };
 
 /// The levels that the library has.
 fn is_there(level: &str) -> bool {
-    ["octets", "ASDU", "frame", "assembling"].contains(&level)
+    ["octets", "ASDU", "frame", "assembling", "link"].contains(&level)
+}
+
+fn all_shown() -> impl Iterator<Item = &'static Shown> {
+    table::SHOWN.iter().chain(&link::shown::SHOWN)
 }
 
 pub fn compare(report: &mut Report) {
     report.level("entries of docs/DIFFERENCES.md");
     report.group("by their smallest inputs");
-    for shown in &SHOWN {
+    for shown in all_shown() {
         report.listed(shown.entry, shown.input(), shown.ours(), shown.rust());
     }
     for Entry { id, level, .. } in entries::all() {
-        let is_shown = SHOWN.iter().any(|shown| shown.entry == id);
+        let is_shown = all_shown().any(|shown| shown.entry == id);
         report.same((id, level), is_shown, is_there(level));
     }
 }
@@ -34,7 +38,7 @@ pub fn show(id: &str) -> Result<bool, String> {
         entry.ok_or(format!("docs/DIFFERENCES.md has no entry {id}"))?;
     println!("{id} {title}");
     let mut as_listed = true;
-    for shown in SHOWN.iter().filter(|shown| shown.entry == id) {
+    for shown in all_shown().filter(|shown| shown.entry == id) {
         println!("  {:?}", shown.input());
         as_listed &= show_answer("ours", shown.ours());
         as_listed &= show_answer("the Rust", shown.rust());
