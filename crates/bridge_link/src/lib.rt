@@ -5,9 +5,6 @@ pub mod cells;
 
 use link::answers::Called;
 use link::answers::LinkAnswer;
-use link::receiving;
-use link::sending;
-use link::timing;
 use link_state::opening;
 
 pub const WRITTEN: usize = 71;
@@ -33,7 +30,12 @@ fn put_called(list: &mut [u64], called: Called) -> u32 {
             0
         }
         LinkAnswer::Refused(refusal) => {
-            put_answer(list, 0, link.state.settings.k <= link.state.window.held, false);
+            put_answer(
+                list,
+                0,
+                link.state.settings.k <= link.state.window.held,
+                false,
+            );
             laws::wide(refusal.0)
         }
     }
@@ -59,7 +61,10 @@ pub extern "C" fn gg_link_receive(
     more: bool,
     moment: u64,
 ) -> u32 {
-    put_called(list, receiving::receive(cells::link_in(list), pool, out, f, more, moment))
+    put_called(
+        list,
+        link_receive::receive(cells::link_in(list), pool, out, f, more, moment),
+    )
 }
 
 #[no_mangle]
@@ -70,20 +75,32 @@ pub extern "C" fn gg_link_send(
     asdu: &[u8],
     moment: u64,
 ) -> u32 {
-    put_called(list, sending::send(cells::link_in(list), pool, out, asdu, moment))
+    put_called(
+        list,
+        link_send::send(cells::link_in(list), pool, out, asdu, moment),
+    )
 }
 
 #[no_mangle]
 pub extern "C" fn gg_link_stop(list: &mut [u64], pool: &[u8], out: &mut [u8], moment: u64) -> u32 {
-    put_called(list, timing::stop(cells::link_in(list), pool, out, moment))
+    put_called(
+        list,
+        link_time::stop(cells::link_in(list), pool, out, moment),
+    )
 }
 
 #[no_mangle]
 pub extern "C" fn gg_link_test(list: &mut [u64], pool: &[u8], out: &mut [u8], moment: u64) -> u32 {
-    put_called(list, timing::test(cells::link_in(list), pool, out, moment))
+    put_called(
+        list,
+        link_time::test(cells::link_in(list), pool, out, moment),
+    )
 }
 
 #[no_mangle]
 pub extern "C" fn gg_link_tick(list: &mut [u64], pool: &[u8], out: &mut [u8], moment: u64) -> u32 {
-    put_called(list, timing::tick(cells::link_in(list), pool, out, moment))
+    put_called(
+        list,
+        link_time::tick(cells::link_in(list), pool, out, moment),
+    )
 }

@@ -9,13 +9,13 @@ use Rattle.drive.proofs.take_bytes.Statement.{statement}
 use Rattle.drive.proofs.take_bytes.Tie as tie
 
 abbrev Inv-loop : tie.InvT-loop
-Inv-loop bytes line₀ held out₀ holding₀ i₀ line out holding i = (length line ≡ length line₀) × (length out ≡ length out₀)
+Inv-loop bytes line₀ held out₀ list₀ pool₀ holding₀ i₀ line out list pool holding i = (length line ≡ length line₀) × (length out ≡ length out₀) × (length list ≡ length list₀) × (length pool ≡ length pool₀)
 
 abbrev μ-loop : tie.MeasureT-loop
-μ-loop bytes line₀ held out₀ holding₀ i₀ line out holding i = length bytes - i
+μ-loop bytes line₀ held out₀ list₀ pool₀ holding₀ i₀ line out list pool holding i = length bytes - i
 
 loop-holds : tie.Need-loop-holds Inv-loop μ-loop
-loop-holds c = (refl, refl)
+loop-holds c = (refl, refl, refl, refl)
 
 shared-slice-read-take-byte : tie.Need-shared-slice-read-take-byte Inv-loop μ-loop
 shared-slice-read-take-byte c = omega arith
@@ -38,8 +38,14 @@ same-length c = c .before .loop .inv .0
 same-length-2 : tie.Need-same-length-2 Inv-loop μ-loop
 same-length-2 c = c .before .loop .inv .1
 
+same-length-3 : tie.Need-same-length-3 Inv-loop μ-loop
+same-length-3 c = c .before .loop .inv .2
+
+same-length-4 : tie.Need-same-length-4 Inv-loop μ-loop
+same-length-4 c = c .before .loop .inv .3
+
 returns : tie.Need-returns Inv-loop μ-loop
 returns c = tt
 
 pub take-bytes-spec : {M : Type 1} → statement M
-take-bytes-spec = tie.close (tie.spec Inv-loop μ-loop loop-holds shared-slice-read-take-byte take-byte-requires add-i loop-less loop-again same-length same-length-2 returns)
+take-bytes-spec = tie.close (tie.spec Inv-loop μ-loop loop-holds shared-slice-read-take-byte take-byte-requires add-i loop-less loop-again same-length same-length-2 same-length-3 same-length-4 returns)
