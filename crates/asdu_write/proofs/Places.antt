@@ -18,6 +18,9 @@ use Rattle.asdu.specs.Writing.{ownObjects, firstAddress, headerOctets, addressO
 use Rattle.asdu.specs.declared.Asdu.{Asdu}
 use Rattle.asdu.proofs.Lengths.{listed-small, writable, asdu-long}
 
+pub put-none : {l : List ℕ} (p : ℕ) → Put l p [] p l
+put-none p = record { stored = refl; next = omega arith }
+
 -- a part, and the next part after it
 pub put-then : {l l′ l″ : List ℕ} {p r r′ : ℕ} {vs ws : List ℕ} → Put l p vs r l′ → Put l′ r ws r′ l″ → Put l p (vs ++ ws) r′ l″
 put-then {l} {l′} {l″} {p} {r} {r′} {vs} {ws} a b = record {

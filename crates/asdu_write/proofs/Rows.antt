@@ -1,20 +1,45 @@
 -- The objects of a record from object i on: their first refusal and their octets, as the loops come to them. Assumes nothing.
 use Prim.Native.Nat.{ℕ, _+_, _<_, _≤_}
-use mathlib.Core.Path.{_≡_, sym, ap, _∙_}
+use mathlib.Core.Path.{_≡_, refl, sym, ap, _∙_}
 use mathlib.Core.Bool.{Bool, true, false, not}
 use mathlib.Core.List.{List, [], _∷_, _++_}
 use native.Mathlib.Numerals.{add-one}
+use native.Mathlib.Omega.{arith}
+use borrow.Author.Tests.{eq-eqb, ne-eqb, lt-ltb, le-ltb}
 use lib.Dec.{eqb}
 use lib.ListN.{length, getD, drop, take, drop-of-length-le}
 use lib.Seq.{drop-cons, getD-take, length-take-le}
 use Rattle.laws.specs.Choice.{_then_}
-use Rattle.elements.specs.Refusals.{refusal}
+use Rattle.elements.specs.Refusals.{refusal, wrongKind, wrongAddress}
 use Rattle.elements.specs.declared.refusals.Refusal.{Refusal}
 use Rattle.elements.proofs.Refused.{stops, goes}
-use Rattle.objects.specs.Objects.{blank, objectRefusal}
+use Rattle.objects.specs.Kinds.{typeOf, valueKind}
+use Rattle.objects.specs.Elements.{valueRefusal}
+use Rattle.objects.specs.Objects.{blank, kindRefusal, addressRefusal, objectRefusal}
 use Rattle.objects.specs.declared.kinds.Kind.{Kind}
 use Rattle.objects.specs.declared.Object.{Object}
 use Rattle.asdu.specs.Writing.{firstRefusal, bodyOctets, objectsOctets}
+
+-- The first object is held to its own address, so that a sequence asks nothing more of it.
+pub alone : (k : Kind) (q : Bool) (o : Object) → objectRefusal k false 0 0 o ≡ objectRefusal k q (o .address) 0 o
+unfolding objectRefusal addressRefusal
+alone k true o = simp (eq-eqb (o .address) (o .address + 0) (omega arith))
+alone k false o = refl
+
+-- its rows: 16, 14, 15
+module _ (k : Kind) (o : Object) where
+  pub alone-kind : (typeOf (valueKind (o .value)) ≡ typeOf k → ⊥) → objectRefusal k false 0 0 o ≡ wrongKind
+  unfolding objectRefusal kindRefusal _then_
+  alone-kind h = simp (ne-eqb _ _ h)
+
+  module _ (h : typeOf (valueKind (o .value)) ≡ typeOf k) where
+    pub alone-address : 16777215 < o .address → objectRefusal k false 0 0 o ≡ wrongAddress
+    unfolding objectRefusal kindRefusal addressRefusal _then_
+    alone-address g = simp (eq-eqb _ _ h, lt-ltb _ _ g)
+
+    pub alone-value : o .address ≤ 16777215 → objectRefusal k false 0 0 o ≡ valueRefusal (o .value)
+    unfolding objectRefusal kindRefusal addressRefusal _then_
+    alone-value g = simp (eq-eqb _ _ h, le-ltb _ _ g)
 
 module _ (n i : ℕ) (l : List Object) (g : n ≤ length l) where
   one-more : i < n → drop i (take n l) ≡ getD l i blank ∷ drop (i + 1) (take n l)

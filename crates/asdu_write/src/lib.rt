@@ -1,11 +1,13 @@
 // Writing an ASDU into a lent output (asdu.rs, `Asdu::to_bytes`).
 ghost use mathlib.Core.Path.{_≡_};
+ghost use mathlib.Core.Bool.{false};
 ghost use Prim.Native.Nat.{_+_, _≤_, _<_};
-ghost use lib.ListN.{length, take};
+ghost use lib.ListN.{length, take, drop};
 ghost use lib.Seq.{sets};
 ghost use Rattle.elements.specs.Refusals.{refusal};
 ghost use Rattle.asdu.specs.Writing.{ownObjects, firstAddress, firstRefusal, shapeRefusal, roomRefusal, writeRefusalBy, writeRefusal, headerOctets, addressOctets, bodyOctets, objectsOctets, asduOctets, writeAnswer, written};
 ghost use Rattle.asdu.specs.Puts.{Put};
+ghost use Rattle.objects.specs.Objects.{objectRefusal};
 ghost use Rattle.objects.specs.declared.kinds.KindAnswer.the-variants.{Carried};
 use asdu::Asdu;
 use asdu::WriteAnswer;
@@ -35,15 +37,27 @@ fn shape_refusal(kind: Kind, sequence: bool, n: usize) -> Refusal
     Refusal::NONE
 }
 
-fn objects_refusal(a: Asdu, kind: Kind) -> Refusal
+// The first object of a record, whose address is the first: no index to hold it to.
+fn first_refusal(kind: Kind, object: Object) -> Refusal
+    ensures { λ r. ⌜ r ≡ refusal (objectRefusal kind false 0 0 object) ⌝ }
+{
+    let value = object.value;
+    if kinds::type_of(values::kind_of_value(value)) != kinds::type_of(kind) {
+        return Refusal::WRONG_KIND;
+    }
+    if 16777215 < object.address {
+        return Refusal::WRONG_ADDRESS;
+    }
+    values::value_refusal(value)
+}
+
+fn later_refusal(a: Asdu, kind: Kind, first: u32) -> Refusal
     requires { ⌜ a .count ≤ 127 ⌝ }
-    ensures { λ r. ⌜ r ≡ refusal (firstRefusal kind (a .sequence) (firstAddress a) 0 (ownObjects a)) ⌝ }
+    ensures { λ r. ⌜ r ≡ refusal (firstRefusal kind (a .sequence) first 1 (drop 1 (ownObjects a))) ⌝ }
 {
     let n = a.count;
     let sequence = a.sequence;
-    let head = a.objects[0];
-    let first = head.address;
-    let mut i: usize = 0;
+    let mut i: usize = 1;
     while i < n {
         let r = objects::object_refusal(kind, sequence, first, i, a.objects[i]);
         if !r.is_none() {
@@ -52,6 +66,26 @@ fn objects_refusal(a: Asdu, kind: Kind) -> Refusal
         i += 1;
     }
     Refusal::NONE
+}
+
+// A record of one object, the most frequent, is not copied for a loop over the others (decision 39).
+fn objects_refusal(a: Asdu, kind: Kind) -> Refusal
+    requires { ⌜ a .count ≤ 127 ⌝ }
+    ensures { λ r. ⌜ r ≡ refusal (firstRefusal kind (a .sequence) (firstAddress a) 0 (ownObjects a)) ⌝ }
+{
+    let n = a.count;
+    if n == 0 {
+        return Refusal::NONE;
+    }
+    let head = a.objects[0];
+    let first = first_refusal(kind, head);
+    if !first.is_none() {
+        return first;
+    }
+    if n == 1 {
+        return Refusal::NONE;
+    }
+    later_refusal(a, kind, head.address)
 }
 
 fn room_refusal(n: usize, room: usize) -> Refusal
@@ -126,19 +160,34 @@ fn put_body(out: &mut [u8], at: usize, sequence: bool, object: Object) -> usize
     at + 3 + size
 }
 
-fn put_bodies(out: &mut [u8], from: usize, a: Asdu) -> usize
-    requires { ⌜ (a .count ≤ 127) × (from + length (objectsOctets (a .sequence) (ownObjects a)) ≤ length (now out)) ⌝ }
-    ensures { λ r. ⌜ Put (now (out .entry)) from (objectsOctets (a .sequence) (ownObjects a)) r (now (out .exit)) ⌝ }
+fn put_later(out: &mut [u8], from: usize, a: Asdu) -> usize
+    requires { ⌜ (a .count ≤ 127) × (from + length (objectsOctets (a .sequence) (drop 1 (ownObjects a))) ≤ length (now out)) ⌝ }
+    ensures { λ r. ⌜ Put (now (out .entry)) from (objectsOctets (a .sequence) (drop 1 (ownObjects a))) r (now (out .exit)) ⌝ }
 {
     let n = a.count;
     let sequence = a.sequence;
     let mut at = from;
-    let mut i: usize = 0;
+    let mut i: usize = 1;
     while i < n {
         at = put_body(out, at, sequence, a.objects[i]);
         i += 1;
     }
     at
+}
+
+fn put_bodies(out: &mut [u8], from: usize, a: Asdu) -> usize
+    requires { ⌜ (a .count ≤ 127) × (from + length (objectsOctets (a .sequence) (ownObjects a)) ≤ length (now out)) ⌝ }
+    ensures { λ r. ⌜ Put (now (out .entry)) from (objectsOctets (a .sequence) (ownObjects a)) r (now (out .exit)) ⌝ }
+{
+    let n = a.count;
+    if n == 0 {
+        return from;
+    }
+    let at = put_body(&mut *out, from, a.sequence, a.objects[0]);
+    if n == 1 {
+        return at;
+    }
+    put_later(out, at, a)
 }
 
 // The one address of a sequence; the answer is the place of the first object.

@@ -1,91 +1,79 @@
 -- `asdu_write::objects_refusal` meets its contract. Assumes nothing.
-use Prim.Native.Nat.{_≤_, _-_}
-use mathlib.Core.Path.{_≡_, refl, sym, ap, _∙_}
+use mathlib.Core.Path.{_≡_, sym, ap, _∙_}
 use native.Mathlib.Omega.{arith}
 use borrow.Author.Needs.{needs}
-use lib.ListN.{take, drop, length, length-map}
+use lib.ListN.{length, getD, length-map}
 use Rattle.elements.specs.Refusals.{refusal}
-use Rattle.asdu.specs.Writing.{firstRefusal, firstAddress}
-use Rattle.asdu_write.proofs.Rows.{refusal-here, refusal-after, refusal-end}
+use Rattle.objects.specs.Objects.{blank}
+use Rattle.asdu.specs.Writing.{firstAddress}
+use Rattle.asdu_write.proofs.Rows.{alone, refusal-here, refusal-after, refusal-end}
 use Rattle.asdu_write.proofs.objects_refusal.Statement.{statement}
 use Rattle.asdu_write.proofs.objects_refusal.Tie as tie
 
-abbrev Inv-loop : tie.InvT-loop
-Inv-loop kind a n sequence first i₀ i =
-    (i ≤ n) × (firstRefusal kind sequence first i (drop i (take n (a .objects))) ≡ firstRefusal kind sequence first 0 (take n (a .objects)))
+returns : tie.Need-returns
+returns c =
+    let start = c .before in
+    let a = start .args .t1 in
+    let k = start .args .kind in
+    let l : length (a .objects) ≡ 127 = sym (length-map (a .objects) _) ∙ start .good .0 .1 .1 .0 .1 .0 .1 in
+    ap refusal (sym (refusal-end (a .count) 0 (a .objects) (omega arith) k (a .sequence) (firstAddress a) (omega arith)))
 
-abbrev μ-loop : tie.MeasureT-loop
-μ-loop kind a n sequence first i₀ i = n - i
-
-element-copy-out-head : tie.Need-element-copy-out-head Inv-loop μ-loop
+element-copy-out-head : tie.Need-element-copy-out-head
 element-copy-out-head c = search needs
 
-loop-holds : tie.Need-loop-holds Inv-loop μ-loop
-loop-holds c = (omega arith, refl)
+first-refusal-requires : tie.Need-first-refusal-requires
+first-refusal-requires c κs = search needs
 
-mul-object-refusal : tie.Need-mul-object-refusal Inv-loop μ-loop
-mul-object-refusal c = omega arith
-
-element-copy-out-object-refusal : tie.Need-element-copy-out-object-refusal Inv-loop μ-loop
-element-copy-out-object-refusal c = omega arith
-
-object-refusal-requires : tie.Need-object-refusal-requires Inv-loop μ-loop
-object-refusal-requires c κs = search needs
-
-is-none-requires : tie.Need-is-none-requires Inv-loop μ-loop
+is-none-requires : tie.Need-is-none-requires
 is-none-requires c κs = search needs
 
-returns : tie.Need-returns Inv-loop μ-loop
-returns c =
-    let s = c .before .before .before .before .before in
-    let start = s .before .before in
-    let a = start .args .t1 in
-    let l : length (a .objects) ≡ 127 = sym (length-map (a .objects) _) ∙ start .good .0 .1 .1 .0 .1 .0 .1 in
-    refusal-here (a .count) (s .loop .i) (a .objects) (omega arith) (start .args .kind) (a .sequence) (firstAddress a) (c .before .before .before .before .loop-test .taken)
-    (c .before .before .object-refusal .ensures) (c .before .is-none .ensures) (c .if1 .taken)
-    ∙ ap refusal (s .loop .inv .1)
-
-add-i : tie.Need-add-i Inv-loop μ-loop
-add-i c = omega arith
-
-loop-less : tie.Need-loop-less Inv-loop μ-loop
-loop-less c = omega arith
-
-loop-again : tie.Need-loop-again Inv-loop μ-loop
-loop-again c =
-    let s = c .before .before .before .before .before in
-    let start = s .before .before in
-    let a = start .args .t1 in
-    let l : length (a .objects) ≡ 127 = sym (length-map (a .objects) _) ∙ start .good .0 .1 .1 .0 .1 .0 .1 in (
-      omega arith,
-      refusal-after (a .count) (s .loop .i) (a .objects) (omega arith) (start .args .kind) (a .sequence) (firstAddress a) (c .before .before .before .before .loop-test .taken)
-          (c .before .before .object-refusal .ensures) (c .before .is-none .ensures) (c .if1 .left)
-          ∙ s .loop .inv .1,
-    )
-
-returns-2 : tie.Need-returns-2 Inv-loop μ-loop
+returns-2 : tie.Need-returns-2
 returns-2 c =
-    let s = c .before in
-    let start = s .before .before in
+    let start = c .before .before .before .before .before in
     let a = start .args .t1 in
+    let k = start .args .kind in
     let l : length (a .objects) ≡ 127 = sym (length-map (a .objects) _) ∙ start .good .0 .1 .1 .0 .1 .0 .1 in
-    let none = refusal-end (a .count) (s .loop .i) (a .objects) (omega arith) (start .args .kind) (a .sequence) (firstAddress a) (c .loop-test .left) in
-    ap refusal (sym none ∙ s .loop .inv .1)
+    let same = alone k (a .sequence) (getD (a .objects) 0 blank) in
+    refusal-here (a .count) 0 (a .objects) (omega arith) k (a .sequence) (firstAddress a) (omega arith)
+    (c .before .before .first-refusal .ensures ∙ ap refusal same) (c .before .is-none .ensures) (c .if2 .taken)
+
+returns-3 : tie.Need-returns-3
+returns-3 c =
+    let start = c .before .before .before .before .before .before in
+    let a = start .args .t1 in
+    let k = start .args .kind in
+    let l : length (a .objects) ≡ 127 = sym (length-map (a .objects) _) ∙ start .good .0 .1 .1 .0 .1 .0 .1 in
+    let same = alone k (a .sequence) (getD (a .objects) 0 blank) in
+    let none = refusal-end (a .count) 1 (a .objects) (omega arith) k (a .sequence) (firstAddress a) (omega arith) in
+    ap refusal
+    (sym none
+    ∙ refusal-after (a .count) 0 (a .objects) (omega arith) k (a .sequence) (firstAddress a) (omega arith)
+    (c .before .before .before .first-refusal .ensures ∙ ap refusal same) (c .before .before .is-none .ensures) (c .before .if2 .left))
+
+later-refusal-requires : tie.Need-later-refusal-requires
+later-refusal-requires c κs = search needs
+
+returns-4 : tie.Need-returns-4
+returns-4 c =
+    let start = c .before .before .before .before .before .before .before in
+    let a = start .args .t1 in
+    let k = start .args .kind in
+    let l : length (a .objects) ≡ 127 = sym (length-map (a .objects) _) ∙ start .good .0 .1 .1 .0 .1 .0 .1 in
+    let same = alone k (a .sequence) (getD (a .objects) 0 blank) in
+    c .later-refusal .ensures
+    ∙ ap refusal
+    (refusal-after (a .count) 0 (a .objects) (omega arith) k (a .sequence) (firstAddress a) (omega arith)
+    (c .before .before .before .before .first-refusal .ensures ∙ ap refusal same) (c .before .before .before .is-none .ensures) (c .before .before .if2 .left))
 
 pub objects-refusal-spec : {M : Type 1} → statement M
 objects-refusal-spec =
     tie.close
     (tie.spec
-    Inv-loop
-    μ-loop
-    element-copy-out-head
-    loop-holds
-    mul-object-refusal
-    element-copy-out-object-refusal
-    object-refusal-requires
-    is-none-requires
     returns
-    add-i
-    loop-less
-    loop-again
-    returns-2)
+    element-copy-out-head
+    first-refusal-requires
+    is-none-requires
+    returns-2
+    returns-3
+    later-refusal-requires
+    returns-4)

@@ -1,90 +1,78 @@
 -- `asdu_write::put_bodies` meets its contract. Assumes nothing.
-use Prim.Native.Nat.{_+_, _≤_, _-_}
-use mathlib.Core.Path.{_≡_, refl, sym, ap, _∙_}
+use mathlib.Core.Path.{_≡_, sym, ap, _∙_}
 use native.Mathlib.Omega.{arith}
-use lib.ListN.{length, take, drop, length-map, getD, length-append}
-use lib.Seq.{sets}
-use Rattle.laws.proofs.Lists.{sets-append}
+use borrow.Author.Needs.{needs}
+use lib.ListN.{length, take, drop, getD, length-map, length-append}
 use Rattle.objects.specs.Objects.{blank}
 use Rattle.asdu.specs.Writing.{bodyOctets, objectsOctets}
-use Rattle.asdu_write.proofs.Places.{put-long}
+use Rattle.asdu_write.proofs.Places.{put-none, put-then, put-long}
 use Rattle.asdu_write.proofs.Rows.{octets-more, octets-end}
 use Rattle.asdu_write.proofs.put_bodies.Statement.{statement}
 use Rattle.asdu_write.proofs.put_bodies.Tie as tie
 
-abbrev Inv-loop : tie.InvT-loop
-Inv-loop out₀ from a n sequence at₀ i₀ out at i =
-    (i ≤ n)
-    × (length out ≡ length out₀)
-    × (sets out at (objectsOctets sequence (drop i (take n (a .objects)))) ≡ sets out₀ from (objectsOctets sequence (take n (a .objects))))
-    × (at + length (objectsOctets sequence (drop i (take n (a .objects)))) ≡ from + length (objectsOctets sequence (take n (a .objects))))
-
-abbrev μ-loop : tie.MeasureT-loop
-μ-loop out₀ from a n sequence at₀ i₀ out at i = n - i
-
-loop-holds : tie.Need-loop-holds Inv-loop μ-loop
-loop-holds c = (omega arith, refl, refl, refl)
-
-mul-put-body : tie.Need-mul-put-body Inv-loop μ-loop
-mul-put-body c = omega arith
-
-element-copy-out-put-body : tie.Need-element-copy-out-put-body Inv-loop μ-loop
-element-copy-out-put-body c = omega arith
-
-put-body-requires : tie.Need-put-body-requires Inv-loop μ-loop
-put-body-requires c κs =
-    let s = c .before .before .before in
-    let a = s .before .before .args .t3 in
-    let l : length (a .objects) ≡ 127 = sym (length-map (a .objects) _) ∙ s .before .before .good .1 .1 .0 .1 .1 .0 .1 .0 .1 in
-    let e = octets-more (a .count) (s .loop .i) (a .objects) (omega arith) (a .sequence) (c .before .before .loop-test .taken) in
-    let o = bodyOctets (a .sequence) (getD (a .objects) (s .loop .i) blank) in
-    let rest = objectsOctets (a .sequence) (drop (s .loop .i + 1) (take (a .count) (a .objects))) in
-    omega (arith, ap length e, length-append o rest)
-
-add-i : tie.Need-add-i Inv-loop μ-loop
-add-i c = omega arith
-
-loop-less : tie.Need-loop-less Inv-loop μ-loop
-loop-less c = omega arith
-
-loop-again : tie.Need-loop-again Inv-loop μ-loop
-loop-again c =
-    let s = c .before .before .before .before .before .before in
-    let a = s .before .before .args .t3 in
-    let l : length (a .objects) ≡ 127 = sym (length-map (a .objects) _) ∙ s .before .before .good .1 .1 .0 .1 .1 .0 .1 .0 .1 in
-    let e = octets-more (a .count) (s .loop .i) (a .objects) (omega arith) (a .sequence) (c .before .before .before .before .before .loop-test .taken) in
-    let o = bodyOctets (a .sequence) (getD (a .objects) (s .loop .i) blank) in
-    let rest = objectsOctets (a .sequence) (drop (s .loop .i + 1) (take (a .count) (a .objects))) in
-    let p = c .before .before .put-body .ensures in (
-      omega arith,
-      put-long p ∙ s .loop .inv .1,
-      rw (p .stored, p .next, ← (sets-append (s .loop .out) (s .loop .at) o rest), ← e) (s .loop .inv .2),
-      omega (arith, p .next, ap length e, length-append o rest, s .loop .inv .3),
-    )
-
-same-length : tie.Need-same-length Inv-loop μ-loop
-same-length c = c .before .loop .inv .1
-
-returns : tie.Need-returns Inv-loop μ-loop
+returns : tie.Need-returns
 returns c =
-    let s = c .before in
-    let a = s .before .before .args .t3 in
-    let l : length (a .objects) ≡ 127 = sym (length-map (a .objects) _) ∙ s .before .before .good .1 .1 .0 .1 .1 .0 .1 .0 .1 in
-    let e = octets-end (a .count) (s .loop .i) (a .objects) (omega arith) (a .sequence) (c .loop-test .left) in
-    record { stored = rw e at (s .loop .inv .2); next = omega (arith, ap length e, s .loop .inv .3) }
+    let start = c .before .before in
+    let a = start .args .t3 in
+    let l : length (a .objects) ≡ 127 = sym (length-map (a .objects) _) ∙ start .good .1 .1 .0 .1 .1 .0 .1 .0 .1 in
+    rw (octets-end (a .count) 0 (a .objects) (omega arith) (a .sequence) (omega arith)) (put-none (start .args .from))
+
+element-copy-out-put-body : tie.Need-element-copy-out-put-body
+element-copy-out-put-body c = search needs
+
+put-body-requires : tie.Need-put-body-requires
+put-body-requires c κs =
+    let start = c .before .before .before .before in
+    let a = start .args .t3 in
+    let l : length (a .objects) ≡ 127 = sym (length-map (a .objects) _) ∙ start .good .1 .1 .0 .1 .1 .0 .1 .0 .1 in
+    let e = octets-more (a .count) 0 (a .objects) (omega arith) (a .sequence) (omega arith) in
+    let o = bodyOctets (a .sequence) (getD (a .objects) 0 blank) in
+    let rest = objectsOctets (a .sequence) (drop 1 (take (a .count) (a .objects))) in
+    omega (arith, start .pre .1, ap length e, length-append o rest)
+
+same-length : tie.Need-same-length
+same-length c = search needs
+
+returns-2 : tie.Need-returns-2
+returns-2 c =
+    let start = c .before .before .before .before .before .before .before .before in
+    let a = start .args .t3 in
+    let l : length (a .objects) ≡ 127 = sym (length-map (a .objects) _) ∙ start .good .1 .1 .0 .1 .1 .0 .1 .0 .1 in
+    let e = octets-more (a .count) 0 (a .objects) (omega arith) (a .sequence) (omega arith) in
+    let end = octets-end (a .count) 1 (a .objects) (omega arith) (a .sequence) (omega arith) in
+    rw (e, end) (put-then (c .before .before .before .put-body .ensures) (put-none _))
+
+put-later-requires : tie.Need-put-later-requires
+put-later-requires c κs =
+    let start = c .before .before .before .before .before .before .before .before .before in
+    let a = start .args .t3 in
+    let l : length (a .objects) ≡ 127 = sym (length-map (a .objects) _) ∙ start .good .1 .1 .0 .1 .1 .0 .1 .0 .1 in
+    let e = octets-more (a .count) 0 (a .objects) (omega arith) (a .sequence) (omega arith) in
+    let o = bodyOctets (a .sequence) (getD (a .objects) 0 blank) in
+    let rest = objectsOctets (a .sequence) (drop 1 (take (a .count) (a .objects))) in
+    let p = c .before .before .before .before .put-body .ensures in
+    (start .pre .0, omega (arith, start .pre .1, p .next, ap length e, length-append o rest, put-long p))
+
+same-length-2 : tie.Need-same-length-2
+same-length-2 c = search needs
+
+returns-3 : tie.Need-returns-3
+returns-3 c =
+    let start = c .before .before .before .before .before .before .before .before .before .before .before .before in
+    let a = start .args .t3 in
+    let l : length (a .objects) ≡ 127 = sym (length-map (a .objects) _) ∙ start .good .1 .1 .0 .1 .1 .0 .1 .0 .1 in
+    let e = octets-more (a .count) 0 (a .objects) (omega arith) (a .sequence) (omega arith) in
+    rw e (put-then (c .before .before .before .before .before .before .before .put-body .ensures) (c .before .before .put-later .ensures))
 
 pub put-bodies-spec : {M : Type 1} → statement M
 put-bodies-spec =
     tie.close
     (tie.spec
-    Inv-loop
-    μ-loop
-    loop-holds
-    mul-put-body
+    returns
     element-copy-out-put-body
     put-body-requires
-    add-i
-    loop-less
-    loop-again
     same-length
-    returns)
+    returns-2
+    put-later-requires
+    same-length-2
+    returns-3)
