@@ -7,6 +7,7 @@ pub mod Answered
 pub mod FrameBack
 pub mod FrameAgain
 pub mod FrameTells
+pub mod FrameAccepts
 pub mod FrameCases
 pub mod CutFree
 pub mod Cuts

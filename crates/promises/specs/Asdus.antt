@@ -3,10 +3,12 @@ use Prim.Native.Nat.{ℕ, zero, suc, _+_, _<_, _≤_}
 use mathlib.Core.Path.{_≡_}
 use mathlib.Core.Bool.{Bool, true, false}
 use mathlib.Core.List.{List, [], _∷_, _++_}
+use mathlib.Core.Logic.{_↔_}
 use lib.ListN.{length, drop, replicate}
 use Rattle.laws.specs.Bits.{Layout, whole, num, octet}
 use Rattle.laws.specs.Lists.{Octets}
 use Rattle.laws.specs.Numbers.{leOf, leOctets}
+use Rattle.elements.specs.Refusals.{refusal}
 use Rattle.objects.specs.Kinds.{typeOf, sizeOf, formOf}
 use Rattle.objects.specs.Promises.{Typed, keptBy}
 use Rattle.objects.specs.declared.kinds.Kind.{Kind}
@@ -89,11 +91,12 @@ WritesAgain = (s : List ℕ) (room : ℕ) → Octets s → readRefusal s ≡ 0 �
 
 -- ---- tells
 
--- "a call tells exactly whether it differs": plain exactly if it reads and writing its reading gives the same octets.
+-- "a call tells exactly whether it differs": plain exactly if it reads and writing its reading gives the same octets, reserved
+-- exactly if it reads and the octets differ; "one that does not read gets the reading's refusal"
 pub record Told (s : List ℕ) : Type 0 where
-  pub yes : plainAnswer s ≡ PlainAnswer.Plain → (readRefusal s ≡ 0) × (asduOctets (readAsdu s .asdu) ≡ s)
-  pub no : readRefusal s ≡ 0 → asduOctets (readAsdu s .asdu) ≡ s → plainAnswer s ≡ PlainAnswer.Plain
-  pub else : plainAnswer s ≡ PlainAnswer.Reserved → (readRefusal s ≡ 0) × (asduOctets (readAsdu s .asdu) ≡ s → ⊥)
+  pub plain : (plainAnswer s ≡ PlainAnswer.Plain) ↔ ((readRefusal s ≡ 0) × (asduOctets (readAsdu s .asdu) ≡ s))
+  pub differs : (plainAnswer s ≡ PlainAnswer.Reserved) ↔ ((readRefusal s ≡ 0) × (asduOctets (readAsdu s .asdu) ≡ s → ⊥))
+  pub refused : (readRefusal s ≡ 0 → ⊥) → plainAnswer s ≡ PlainAnswer.Refused (refusal (readRefusal s))
 
 abbrev pub Tells : Type 0
 Tells = (s : List ℕ) → Octets s → Told s
