@@ -21,7 +21,7 @@ use Rattle.asdu.specs.declared.WriteAnswer.the-variants as WriteAnswer
 use Rattle.asdu.specs.declared.header.Header.{Header}
 use Rattle.asdu.specs.declared.header.HeaderAnswer.{HeaderAnswer}
 use Rattle.asdu.specs.declared.header.HeaderAnswer.the-variants as HeaderAnswer
-use Rattle.promises.specs.Asdus.{Answers}
+use Rattle.promises.specs.Asdus.{AnswerNumbers}
 
 body-number : (h : Header) (s : List ℕ) → answerNumber (readBody h s .answer) ≡ objectsRefusal h s
 unfolding readBody
@@ -66,5 +66,5 @@ counting : (a : Asdu) (room : ℕ) → writeRefusal a room ≡ 0 → writtenCoun
 unfolding writeAnswer
 counting a room e = rw e
 
-pub answers : Answers
+pub answers : AnswerNumbers
 answers = record { reading = reading; telling = telling; writing = writing; counting = counting }

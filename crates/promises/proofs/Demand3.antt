@@ -20,7 +20,7 @@ use Rattle.elements.specs.Refusals.{refusal}
 use Rattle.apdu.specs.Control.{numberAt}
 use Rattle.apdu.specs.Reading.{frameAnswer, asduPart}
 use Rattle.apdu.specs.declared.frame.FrameAnswer.{FrameAnswer}
-use Rattle.assembly.specs.Streams.{rest, Outcome, stream}
+use Rattle.assembly.specs.Streams.{rest, StreamOutcome, stream}
 use Rattle.link_state.specs.Limits.{callRefusal}
 use Rattle.link_state.specs.declared.Settings.{Settings}
 use Rattle.link_state.specs.declared.Link.{Link}
@@ -33,7 +33,7 @@ use Rattle.link.specs.Contracts.{answerOf, calledOf, linkNumber, linkWritten}
 use Rattle.link.specs.declared.answers.LinkAnswer.{LinkAnswer}
 use Rattle.link.specs.declared.answers.LinkAnswer.the-variants as LinkAnswer
 use Rattle.link_meaning.specs.Abstract.{Abstract, Result, fresh, step}
-use Rattle.link_meaning.specs.Meaning.{OctetsIn, waitingOf, timesOf, Same}
+use Rattle.link_meaning.specs.Meaning.{OctetsIn, waitingOf, timesOf, SameOutcome}
 use Rattle.link_meaning.specs.Runs.{Agrees}
 use Rattle.link_meaning.specs.Runs as totals
 use Rattle.link_meaning.proofs.Meaning.{steps-alike}
@@ -154,10 +154,10 @@ module _ (s : Settings) (e : Entry) (past : List Entry) (a : Abstract) (r : Resu
   streamed = ap stream bytes ∙ stream-wire (r .frames) fit
 
   cut-is : cut (e .handed) ≡ each (r .frames)
-  cut-is = ap (λ (o : Outcome). o .frames) streamed
+  cut-is = ap (λ (o : StreamOutcome). o .frames) streamed
 
   ends : stream (e .handed) .end ≡ rest []
-  ends = ap (λ (o : Outcome). o .end) streamed
+  ends = ap (λ (o : StreamOutcome). o .end) streamed
 
   left-is : asdusIn (iFramesIn (cut (e .handed))) ≡ out
   unfolding out
@@ -280,7 +280,7 @@ module _ (s : Settings) (past : List Entry) (l : Link) (between : List ℕ) (a :
       omega (arith, g .means .held, k-is, ap (λ (x : Settings). x .k) (c .settings))
 
   one-stream : iFramesIn (cut (allHanded past)) ≡ iFrames past
-  one-stream = ap (λ (o : Outcome). iFramesIn (o .frames)) (ap stream (c .bytes) ∙ stream-wire (c .frames) (c .fit)) ∙ sym (c .kept)
+  one-stream = ap (λ (o : StreamOutcome). iFramesIn (o .frames)) (ap stream (c .bytes) ∙ stream-wire (c .frames) (c .fit)) ∙ sym (c .kept)
 
   -- fewer than 32,768 are outstanding, so a number has one total
   narrow : S past - A past < 32768
@@ -315,7 +315,7 @@ module _ (s : Settings) (start : ℕ) (pool : List ℕ) (past : List Entry) (l :
       let w = agrees .within .waiting in
       omega arith
 
-  alike : Same (outcomeOf c l between) result
+  alike : SameOutcome (outcomeOf c l between) result
   alike = steps-alike (c .event) l between (length (c .output)) (c .now) (k .link) (agrees .shaped) o free (agrees .means)
 
   done : Stepped (brings (c .event)) (c .now) (k .link) result

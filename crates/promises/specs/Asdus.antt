@@ -61,8 +61,8 @@ pub record ReadBack (a : Asdu) : Type 0 where
   pub answered : answerNumber (readAsdu (asduOctets a) .answer) ≡ 0
   pub back : Back a (readAsdu (asduOctets a) .asdu)
 
-abbrev pub ReadsBack : Type 0
-ReadsBack = (a : Asdu) (room : ℕ) → TypedAsdu a → writeRefusal a room ≡ 0 → ReadBack a
+abbrev pub AsduReadsBack : Type 0
+AsduReadsBack = (a : Asdu) (room : ℕ) → TypedAsdu a → writeRefusal a room ≡ 0 → ReadBack a
 
 -- ---- writes again
 
@@ -86,8 +86,8 @@ pub record WrittenAgain (s : List ℕ) (room : ℕ) : Type 0 where
   pub long : length (asduOctets (readAsdu s .asdu)) ≡ length s
   pub kept : asduOctets (readAsdu s .asdu) ≡ keptBy (asduForm (headerAnswer s)) s
 
-abbrev pub WritesAgain : Type 0
-WritesAgain = (s : List ℕ) (room : ℕ) → Octets s → readRefusal s ≡ 0 → length s ≤ room → WrittenAgain s room
+abbrev pub AsduWritesAgain : Type 0
+AsduWritesAgain = (s : List ℕ) (room : ℕ) → Octets s → readRefusal s ≡ 0 → length s ≤ room → WrittenAgain s room
 
 -- ---- tells
 
@@ -136,7 +136,7 @@ pub record Accepts (s : List ℕ) : Type 0 where
 -- ---- answers
 
 -- the number that each call answers is the refusal that the other promises speak of; a refused ASDU gets the reading's
-pub record Answers : Type 0 where
+pub record AnswerNumbers : Type 0 where
   pub reading : (s : List ℕ) → answerNumber (readAsdu s .answer) ≡ readRefusal s
   pub telling : (s : List ℕ) → plainNumber (plainAnswer s) ≡ readRefusal s
   pub writing : (a : Asdu) (room : ℕ) → writeNumber (writeAnswer a room) ≡ writeRefusal a room
@@ -145,8 +145,8 @@ pub record Answers : Type 0 where
 -- ---- all of it
 
 pub record AsduLevel : Type 0 where
-  pub back : ReadsBack
-  pub again : WritesAgain
+  pub back : AsduReadsBack
+  pub again : AsduWritesAgain
   pub tells : Tells
   pub accepts : (s : List ℕ) → Accepts s
-  pub answers : Answers
+  pub answers : AnswerNumbers
