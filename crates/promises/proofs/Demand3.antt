@@ -22,6 +22,7 @@ use Rattle.apdu.specs.Reading.{frameAnswer, asduPart}
 use Rattle.apdu.specs.declared.frame.FrameAnswer.{FrameAnswer}
 use Rattle.assembly.specs.Streams.{rest, StreamOutcome, stream}
 use Rattle.link_state.specs.Limits.{callRefusal}
+use Rattle.link_state.specs.Opening.{opened, openRefusal}
 use Rattle.link_state.specs.declared.Settings.{Settings}
 use Rattle.link_state.specs.declared.Link.{Link}
 use Rattle.link_state.proofs.Sound.{sound-state, passed}
@@ -36,9 +37,9 @@ use Rattle.link_meaning.specs.Abstract.{Abstract, Result, fresh, step}
 use Rattle.link_meaning.specs.Meaning.{OctetsIn, waitingOf, timesOf, SameOutcome}
 use Rattle.link_meaning.specs.Runs.{Agrees}
 use Rattle.link_meaning.specs.Runs as totals
-use Rattle.link_meaning.proofs.Meaning.{steps-alike}
+use Rattle.link_meaning.proofs.Meaning.{steps-alike, opens-fresh}
 use Rattle.link_meaning.proofs.Runs.{runs-agree}
-use Rattle.promises.specs.Demand3.{Call, outcomeOf, answered, poolAfter, Entry, entryOf, Run, opening, after, cut, iFramesIn, iFrames, allHanded, S, sendTimes, asdusIn, haveLeft, Brought, framed, brings, confirmedBy, R, A, takenBy, taken, Numbered, Claim, Demand3}
+use Rattle.promises.specs.Demand3.{Call, outcomeOf, answered, poolAfter, Entry, entryOf, Run, opening, after, cut, iFramesIn, iFrames, allHanded, S, sendTimes, asdusIn, haveLeft, Brought, framed, brings, confirmedBy, R, A, takenBy, taken, Numbered, Claim, Begun, Demand3}
 use Rattle.promises.proofs.FrameAgain.{Shape, i-shape, s-shape, u-shape, refused-shape, shape}
 use Rattle.promises.proofs.Demand3Pool.{pool-is}
 use Rattle.promises.proofs.Demand3Wire.{AllFit, allOf, each, sentIn, stream-wire, all-fit, asdus-out, numbers-out, fit-append, each-append, kept-append, wire-append}
@@ -46,7 +47,7 @@ use Rattle.promises.proofs.Demand3Steps.{AllPlain, Exact, Stepped, numb
 
 -- ---- what a frame brings
 
-number-low : (f : List ℕ) → Octets f → numberAt 4 f ≤ 32767
+pub number-low : (f : List ℕ) → Octets f → numberAt 4 f ≤ 32767
 number-low f o = let h = le-fits 2 (drop 4 f) (octets-drop 4 f o) in omega arith
 
 frame-low : (f : List ℕ) → Octets f → numberOf (framed (frameAnswer f)) ≤ 32767
@@ -400,6 +401,10 @@ pub known : (s : Settings) (start : ℕ) (pool : List ℕ) (past : List Entry) (
 known s start pool past l between (opening e) = record { link = fresh s start; run = totals.opening e; counted = counted-none s start }
 known s start pool past l between (after {past = q} {l = m} {between = b} before c o free) = next s start pool q m b (known s start pool q m b before) c o free
 
+begun : (s : Settings) (start : ℕ) (pool : List ℕ) → openRefusal s start ≡ 0 → Begun (opened s start .link) pool
+unfolding fresh
+begun s start pool e = let m = opens-fresh s start pool e in record { none-outstanding = omega (arith, m .held); none-waits = m .waiting }
+
 pub demand-3 : Demand3
-demand-3 s start pool past l between (opening e) = tt
+demand-3 s start pool past l between (opening e) = begun s start pool e
 demand-3 s start pool past l between (after {past = q} {l = m} {between = b} before c o free) = claim s start pool q m b (known s start pool q m b before) c o free

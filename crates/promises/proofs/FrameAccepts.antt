@@ -3,16 +3,15 @@ use Prim.Native.Nat.{ℕ, _+_, _*_, _/_, _%_, _≤_}
 use mathlib.Core.Path.{_≡_, refl, sym, ap, _∙_}
 use mathlib.Core.List.{List}
 use native.Mathlib.Omega.{arith}
-use lib.ListN.{length, getD, take, drop, take-append-drop}
+use lib.ListN.{length, getD, drop, take-append-drop}
 use Rattle.laws.specs.Lists.{Octets}
 use Rattle.laws.specs.Numbers.{leOf, leOctets}
 use Rattle.laws.proofs.Numbers as Numbers
 use Rattle.asdu.specs.Reading.{readRefusal}
-use Rattle.apdu.specs.Control.{sendNumber, receiveNumber, numberAt, uOf}
+use Rattle.apdu.specs.Control.{receiveNumber, numberAt, uOf}
 use Rattle.apdu.specs.Reading.{outerRefusal, shortAnswer, frameAnswer, frameNumber}
 use Rattle.apdu.specs.Writing.{startOctets}
-use Rattle.apdu.specs.declared.frame.FrameAnswer.{FrameAnswer}
-use Rattle.apdu.specs.declared.frame.FrameAnswer.the-variants.{I, S, U}
+use Rattle.apdu.specs.declared.frame.FrameAnswer.the-variants.{S}
 use Rattle.apdu.proofs.Answers.{number-small}
 use Rattle.promises.specs.Frames.{LaidFrame, i-laid, s-laid, u-laid, laidAnswer, FrameAccepts}
 use Rattle.promises.proofs.Bodies.{accepted}
@@ -35,7 +34,7 @@ s-reads r bit h b = ap (λ (n : ℕ). S (receiveNumber n)) (halved r bit h b)
 
 takes : (f : List ℕ) (l : LaidFrame f) → frameAnswer f ≡ laidAnswer l
 takes f (i-laid s r asdu p q h e) = ap frameAnswer e ∙ i-reads s r asdu p q (some asdu h) h
-takes f (s-laid r bit p q e) = ap frameAnswer e ∙ s-reads r bit p q
+takes f (s-laid r bit p q e) = ap frameAnswer e ∙ s-reads r bit (omega arith) (omega arith)
 takes f (u-laid u e) = ap frameAnswer e ∙ u-back u
 
 -- ---- what is accepted is laid out

@@ -13,11 +13,14 @@ pub mod CutFree
 pub mod Cuts
 pub mod Parts
 pub mod OneAnswer
+pub mod Acknowledged
 pub mod Demand3Wire
 pub mod Demand3Steps
 pub mod Demand3Pool
 pub mod Demand3
 pub mod Demand3Runs
+pub mod Ranges
+pub mod Demand1
 pub mod Demand3Shown
 pub mod Demand3Reach
 pub mod All

@@ -9,9 +9,12 @@ use Rattle.laws.specs.Bits.{Layout, whole, num, octet}
 use Rattle.laws.specs.Lists.{Octets}
 use Rattle.laws.specs.Numbers.{leOf, leOctets}
 use Rattle.elements.specs.Refusals.{refusal}
-use Rattle.objects.specs.Kinds.{typeOf, sizeOf, formOf}
+use Rattle.objects.specs.Kinds.{typeOf, kindOf, kindNumber, sizeOf, formOf}
+use Rattle.objects.specs.Objects.{objectAnswer, objectNumber, objectGiven}
 use Rattle.objects.specs.Promises.{Typed, keptBy}
 use Rattle.objects.specs.declared.kinds.Kind.{Kind}
+use Rattle.objects.specs.declared.kinds.KindAnswer.the-variants.{Carried}
+use Rattle.objects.specs.declared.values.Value.{Value}
 use Rattle.objects.specs.declared.Object.{Object}
 use Rattle.asdu.specs.Header.{countLayout, causeLayout, causeListed, needed, headerAnswer}
 use Rattle.asdu.specs.Records.{answerNumber, blanks}
@@ -137,6 +140,12 @@ pub record Accepts (s : List ℕ) : Type 0 where
 
 -- the number that each call answers is the refusal that the other promises speak of; a refused ASDU gets the reading's
 pub record AnswerNumbers : Type 0 where
+  -- 11: the carried types, and only they, have a kind
+  pub carried : (k : Kind) → kindOf (typeOf k) ≡ Carried k
+  pub not-carried : (t : ℕ) → (kindNumber (kindOf t) ≡ 0) ↔ ((k : Kind) × (t ≡ typeOf k))
+  -- 14 of an object that is read: its address is above 16,777,215; else the object is the one at this address
+  pub addressed : (a : ℕ) (v : Value) → (objectNumber (objectAnswer a v) ≡ 0) ↔ (a ≤ 16777215)
+  pub given : (a : ℕ) (v : Value) → a ≤ 16777215 → objectGiven (objectAnswer a v) ≡ record { address = a; value = v }
   pub reading : (s : List ℕ) → answerNumber (readAsdu s .answer) ≡ readRefusal s
   pub telling : (s : List ℕ) → plainNumber (plainAnswer s) ≡ readRefusal s
   pub writing : (a : Asdu) (room : ℕ) → writeNumber (writeAnswer a room) ≡ writeRefusal a room
