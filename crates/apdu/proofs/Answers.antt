@@ -18,10 +18,9 @@ use Rattle.objects.specs.Kinds.{kindOf}
 use Rattle.objects.specs.declared.kinds.Kind.{Kind}
 use Rattle.objects.specs.declared.kinds.KindAnswer.{KindAnswer}
 use Rattle.laws.proofs.Lists.{rest-sets}
-use Rattle.asdu.specs.Header.{needed, startRefusal, headerRefusal, headerBy, headerAnswer}
+use Rattle.asdu.specs.Header.{needed, earlyRefusal, headerRefusal, headerBy, headerAnswer}
 use Rattle.asdu.specs.Reading.{refusalBy, readRefusal}
 use Rattle.asdu.specs.Writing.{writeRefusal, asduOctets, writeAnswer, written}
-use Rattle.asdu.specs.Writing as asdu-writing
 use Rattle.asdu.specs.declared.Asdu.{Asdu}
 use Rattle.asdu.specs.declared.header.HeaderAnswer.the-variants as HeaderAnswer
 use Rattle.asdu.specs.declared.WriteAnswer.{WriteAnswer}
@@ -92,8 +91,8 @@ header-passed s k true e h = eqb-true _ _ e
 header-passed s k false e h = h
 
 not-long : (s : List ℕ) → headerRefusal s ≡ 0 → length s ≤ 249
-unfolding headerRefusal startRefusal
-not-long s h = ltb-false _ _ (passed (ltb 249 (length s)) 16 _ (both (startRefusal s) _ h .0) .0)
+unfolding headerRefusal earlyRefusal
+not-long s h = ltb-false _ _ (passed (ltb 249 (length s)) 16 _ (both (earlyRefusal s) _ h .0) .0)
 
 pub octets-small : (s : List ℕ) → readRefusal s ≡ 0 → length s ≤ 249
 unfolding readRefusal headerAnswer

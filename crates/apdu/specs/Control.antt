@@ -17,7 +17,7 @@ sendNumber n = record { 0 = n }
 abbrev pub receiveNumber : ℕ → ReceiveNumber
 receiveNumber n = record { 0 = n }
 
--- the number that two octets hold, shifted left by 1
+-- the number that two octets of a frame hold, shifted left by 1: the send number from octet 2 on, the receive number from 4 on
 abbrev pub numberAt : ℕ → List ℕ → ℕ
 numberAt i f = leOf 2 (drop i f) / 2
 
@@ -25,6 +25,7 @@ numberAt i f = leOf 2 (drop i f) / 2
 abbrev pub uLayout : Layout
 uLayout = 2 at 0 ∷ 1 at 2 ∷ 1 at 3 ∷ 1 at 4 ∷ 1 at 5 ∷ 1 at 6 ∷ 1 at 7 ∷ []
 
+-- reading takes U with none or several flags
 abbrev pub uOf : ℕ → UFrame
 uOf b = record {
   «start_act» = flag 2 b;

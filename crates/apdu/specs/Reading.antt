@@ -40,6 +40,7 @@ longAnswer f =
     (Refused (refusal (readRefusal (drop 6 f)))))
     (Refused (refusal badIControl))
 
+-- the frame: its outside first, then by L
 unfoldable pub frameAnswer : List ℕ → FrameAnswer
 frameAnswer f =
     pick (eqb (outerRefusal f) 0)
@@ -54,11 +55,11 @@ frameNumber (U u) = 0
 frameNumber (Refused r) = r .0
 
 -- the ASDU as a part of the frame: from octet 6 on of an I frame, else empty
-abbrev pub partBy : FrameAnswer → List ℕ → List ℕ
-partBy (I s r) f = drop 6 f
-partBy (S r) f = []
-partBy (U u) f = []
-partBy (Refused r) f = []
+abbrev pub asduPartBy : FrameAnswer → List ℕ → List ℕ
+asduPartBy (I s r) f = drop 6 f
+asduPartBy (S r) f = []
+asduPartBy (U u) f = []
+asduPartBy (Refused r) f = []
 
 unfoldable pub asduPart : List ℕ → List ℕ
-asduPart f = partBy (frameAnswer f) f
+asduPart f = asduPartBy (frameAnswer f) f

@@ -14,7 +14,7 @@ use Rattle.laws.specs.Numbers.{leOctets}
 use Rattle.apdu.specs.Control.{uOctet}
 use Rattle.apdu.specs.declared.frame.UFrame.{UFrame}
 
--- 68 hex, L, and the four control octets as two numbers of two octets
+-- 68 hex, L, and the four control octets as two numbers of two octets each, a and b
 abbrev pub startOctets : ℕ → ℕ → ℕ → List ℕ
 startOctets length a b = 104 ∷ length ∷ (leOctets 2 a ++ leOctets 2 b)
 

@@ -11,7 +11,7 @@ use Rattle.laws.proofs.Choices.{both}
 use Rattle.objects.specs.Kinds.{kindOf}
 use Rattle.objects.specs.declared.kinds.KindAnswer.{KindAnswer}
 use Rattle.objects.specs.declared.kinds.KindAnswer.the-variants.{Carried, NotCarried}
-use Rattle.asdu.specs.Header.{sequenceIn, countIn, startRefusal, kindRefusal, headerRefusal, headerIn, headerBy, headerAnswer}
+use Rattle.asdu.specs.Header.{sequenceIn, countIn, earlyRefusal, headerRefusalBy, headerRefusal, headerIn, headerBy, headerAnswer}
 use Rattle.asdu.specs.Reading.{refusalBy, readRefusal, addressesRefusal}
 use Rattle.asdu.specs.declared.header.HeaderAnswer.{HeaderAnswer}
 use Rattle.asdu.proofs.Starts.{refuses, answers}
@@ -23,14 +23,14 @@ module _ (s : List ℕ) where
   refused-early t = ap (λ (a : HeaderAnswer). refusalBy a s) (sym (refuses s t))
 
   -- a type that is not carried has a refusal
-  by-kind : (a : KindAnswer) → Octets s → kindRefusal a s ≡ 0 → refusalBy (headerBy a s) s ≡ addressesRefusal (sequenceIn s) (countIn s) s
+  by-kind : (a : KindAnswer) → Octets s → headerRefusalBy a s ≡ 0 → refusalBy (headerBy a s) s ≡ addressesRefusal (sequenceIn s) (countIn s) s
   unfolding headerIn
   by-kind NotCarried o z = absurd (omega arith)
   by-kind (Carried k) o z = by-addresses (headerIn k s) s o
 
-  past : headerRefusal s ≡ 0 → kindRefusal (kindOf (getD s 0 0)) s ≡ 0
+  past : headerRefusal s ≡ 0 → headerRefusalBy (kindOf (getD s 0 0)) s ≡ 0
   unfolding headerRefusal
-  past z = both (startRefusal s) (kindRefusal (kindOf (getD s 0 0)) s) z .1
+  past z = both (earlyRefusal s) (headerRefusalBy (kindOf (getD s 0 0)) s) z .1
 
   pub checked : Octets s → headerRefusal s ≡ 0 → readRefusal s ≡ addressesRefusal (sequenceIn s) (countIn s) s
   unfolding readRefusal

@@ -24,7 +24,7 @@ use Rattle.objects.specs.declared.Object.{Object}
 use Rattle.objects.proofs.Elements.{element-level}
 use Rattle.objects.proofs.Objects.{object-long, Fit, fit}
 use Rattle.asdu.specs.Header.{causeListed, stepOf, needed}
-use Rattle.asdu.specs.Writing.{firstRefusal, shapeRefusal, roomRefusal, writeRefusalBy, writeRefusal, bodyOctets, objectsOctets, addressOctets, headerOctets, asduOctets, ownObjects, firstAddress}
+use Rattle.asdu.specs.Writing.{firstRefusal, shapeRefusal, sizeRefusal, writeRefusalBy, writeRefusal, bodyOctets, objectsOctets, addressOctets, headerOctets, asduOctets, ownObjects, firstAddress}
 use Rattle.asdu.specs.declared.Asdu.{Asdu}
 
 -- ---- single refusals
@@ -121,8 +121,8 @@ pub shape-fits : (k : Kind) (q : Bool) (n : ℕ) → shapeRefusal k q n ≡ 0 �
 unfolding shapeRefusal
 shape-fits k q n h = let x = passed (ltb 127 n) 11 _ h in (ltb-false 127 n (x .0), some-of q n (sizeOf k) (x .1))
 
-room-fits : (n room : ℕ) → roomRefusal n room ≡ 0 → (n ≤ 249) × (n ≤ room)
-unfolding roomRefusal
+room-fits : (n room : ℕ) → sizeRefusal n room ≡ 0 → (n ≤ 249) × (n ≤ room)
+unfolding sizeRefusal
 room-fits n room h =
     let x = passed (ltb 249 n) 16 _ h in
     (ltb-false 249 n (x .0), ltb-false room n (passed (ltb room n) 17 _ (x .1) .0))

@@ -14,7 +14,7 @@ use Rattle.objects.specs.Kinds.{kindOf}
 use Rattle.objects.specs.declared.kinds.Kind.{Kind}
 use Rattle.objects.specs.declared.kinds.KindAnswer.{KindAnswer}
 use Rattle.objects.specs.declared.kinds.KindAnswer.the-variants.{Carried, NotCarried}
-use Rattle.asdu.specs.Header.{startRefusal, layoutRefusal, kindRefusal, headerRefusal, headerIn, headerBy, headerAnswer, sequenceIn, countIn}
+use Rattle.asdu.specs.Header.{earlyRefusal, layoutRefusal, headerRefusalBy, headerRefusal, headerIn, headerBy, headerAnswer, sequenceIn, countIn}
 use Rattle.asdu.specs.declared.header.Header.{Header}
 use Rattle.asdu.specs.declared.header.HeaderAnswer.{HeaderAnswer}
 use Rattle.asdu.specs.declared.header.HeaderAnswer.the-variants as HeaderAnswer
@@ -25,7 +25,7 @@ product-small n e h g = mul-le-mul h g
 
 module _ (s : List ℕ) where
   -- the header's refusal once the start has none
-  past-start : startRefusal s ≡ 0 → headerRefusal s ≡ kindRefusal (kindOf (getD s 0 0)) s
+  past-start : earlyRefusal s ≡ 0 → headerRefusal s ≡ headerRefusalBy (kindOf (getD s 0 0)) s
   unfolding headerRefusal _then_
   past-start e = rw e
 
@@ -40,8 +40,8 @@ module _ (s : List ℕ) where
   unfolding headerAnswer
   answers a z f = rw (z, f)
 
-  pub accepts : (k : Kind) → startRefusal s ≡ 0 → kindOf (getD s 0 0) ≡ Carried k → layoutHere k ≡ 0 → HeaderAnswer.Header (headerIn k s) ≡ headerAnswer s
-  accepts k e f l = answers (Carried k) (past-start e ∙ (ap (λ (a : KindAnswer). kindRefusal a s) f ∙ l)) f
+  pub accepts : (k : Kind) → earlyRefusal s ≡ 0 → kindOf (getD s 0 0) ≡ Carried k → layoutHere k ≡ 0 → HeaderAnswer.Header (headerIn k s) ≡ headerAnswer s
+  accepts k e f l = answers (Carried k) (past-start e ∙ (ap (λ (a : KindAnswer). headerRefusalBy a s) f ∙ l)) f
 
 -- ---- what an answer shows
 

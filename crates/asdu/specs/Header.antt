@@ -32,12 +32,13 @@ between a b c = leb a c && leb c b
 unfoldable pub causeListed : ℕ → Bool
 causeListed c = between 1 13 c || (between 20 41 c || between 44 47 c)
 
--- from one element to the next
+-- octets from one element to the next: in the plain layout three of an address lie between
 unfoldable pub stepOf : Kind → Bool → ℕ
 stepOf k true = sizeOf k
 stepOf k false = sizeOf k + 3
 
--- the octets of an ASDU with n objects
+-- the octets of an ASDU with n objects: six of the header, in a sequence three of its one address, then the objects.
+-- 48 counters in sequence need 9 + 48 * 5 = 249, 60 single points in the plain layout 6 + 60 * 4 = 246
 unfoldable pub needed : Kind → Bool → ℕ → ℕ
 needed k true n = 9 + n * stepOf k true
 needed k false n = 6 + n * stepOf k false
@@ -70,22 +71,23 @@ layoutRefusal k q n len =
     pick (eqb len (needed k q n)) (pick (q && (eqb n 0 || eqb (sizeOf k) 0)) emptySequence 0) layoutMismatch
 
 -- what is refused before the type is known: 17, 9, 10, 9
-unfoldable pub startRefusal : List ℕ → ℕ
-startRefusal s =
+unfoldable pub earlyRefusal : List ℕ → ℕ
+earlyRefusal s =
     pick (ltb 249 (length s)) asduTooLong
     (pick (ltb (length s) 3) asduTooShort
     (pick (not (causeListed (causeIn s))) causeNotListed
     (pick (ltb (length s) 6) asduTooShort 0)))
 
--- then 11, and 12 and 13 by the layout
-abbrev pub kindRefusal : KindAnswer → List ℕ → ℕ
-kindRefusal NotCarried s = typeNotCarried
-kindRefusal (Carried k) s = layoutRefusal k (sequenceIn s) (countIn s) (length s)
+-- then 11 by the kind of the type, and 12 and 13 by its layout
+abbrev pub headerRefusalBy : KindAnswer → List ℕ → ℕ
+headerRefusalBy NotCarried s = typeNotCarried
+headerRefusalBy (Carried k) s = layoutRefusal k (sequenceIn s) (countIn s) (length s)
 
 -- the header's refusal, 0 where there is none
 unfoldable pub headerRefusal : List ℕ → ℕ
-headerRefusal s = startRefusal s then kindRefusal (kindOf (getD s 0 0)) s
+headerRefusal s = earlyRefusal s then headerRefusalBy (kindOf (getD s 0 0)) s
 
+-- the header, by the kind of the type
 abbrev pub headerBy : KindAnswer → List ℕ → HeaderAnswer
 headerBy NotCarried s = HeaderAnswer.Refused (refusal typeNotCarried)
 headerBy (Carried k) s = HeaderAnswer.Header (headerIn k s)

@@ -1,4 +1,4 @@
--- Octets that are stored from a place on.
+-- For contracts of helpers that write: octets that are stored from a place on. No promise speaks of it.
 use Prim.Native.Nat.{ℕ, _+_}
 use mathlib.Core.Path.{_≡_}
 use mathlib.Core.List.{List}

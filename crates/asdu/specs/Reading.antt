@@ -26,6 +26,7 @@ unfoldable pub objectIn : Kind → Bool → List ℕ → ℕ → Object
 objectIn k true s i = record { address = leOf 3 (drop 6 s) + i; value = elementOf k (drop (9 + i * stepOf k true) s) }
 objectIn k false s i = objectOf k (drop (6 + i * stepOf k false) s)
 
+-- the same by a header
 abbrev pub objectAt : Header → List ℕ → ℕ → Object
 objectAt h s i = objectIn (h .kind) (h .sequence) s i
 
@@ -41,7 +42,8 @@ firstOf f i (suc n) = f i then firstOf f (suc i) n
 unfoldable pub objectsRefusal : Header → List ℕ → ℕ
 objectsRefusal h s = firstOf (λ (i : ℕ). objectNumber (answerAt h s i)) 0 (h .count)
 
--- the same by the last address alone: those of a sequence rise, and those of the plain layout always fit
+-- the same by the last address alone: those of a sequence rise, and those of the plain layout always fit. The last is
+-- first + n - 1: two objects from 16,777,215 on are one too many
 unfoldable pub addressesRefusal : Bool → ℕ → List ℕ → ℕ
 addressesRefusal q n s = pick (q && ltb 16777216 (leOf 3 (drop 6 s) + n)) wrongAddress 0
 

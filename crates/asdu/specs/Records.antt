@@ -17,6 +17,7 @@ use Rattle.asdu.specs.declared.ReadAsdu.{ReadAsdu}
 abbrev pub filled : List Object → List Object
 filled os = padded 127 blank os
 
+-- no object at all
 unfoldable pub blanks : List Object
 blanks = filled []
 

@@ -1,4 +1,5 @@
--- What writing an ASDU answers, and the octets.
+-- Writing an ASDU (IEC 60870-5-101): what is refused and in which order, its octets, and the output afterwards.
+-- "Writing: .. 10, 11, 12, 13, then per object by index 16, 14, 15, then 17, 18" (document 01)
 use Prim.Native.Nat.{ℕ, suc}
 use mathlib.Core.Bool.{Bool, true, false, _||_, _&&_}
 use mathlib.Core.List.{List, [], _∷_, _++_}
@@ -37,20 +38,21 @@ unfoldable pub shapeRefusal : Kind → Bool → ℕ → ℕ
 shapeRefusal k q n = pick (ltb 127 n) layoutMismatch (pick (q && (eqb n 0 || eqb (sizeOf k) 0)) emptySequence 0)
 
 -- 17 for more than 249 octets, 18 for an output with less room
-unfoldable pub roomRefusal : ℕ → ℕ → ℕ
-roomRefusal n room = pick (ltb 249 n) asduTooLong (pick (ltb room n) outputTooShort 0)
+unfoldable pub sizeRefusal : ℕ → ℕ → ℕ
+sizeRefusal n room = pick (ltb 249 n) asduTooLong (pick (ltb room n) outputTooShort 0)
 
 unfoldable pub writeRefusalBy : KindAnswer → Asdu → ℕ → ℕ
 writeRefusalBy NotCarried a room = typeNotCarried
 writeRefusalBy (Carried k) a room =
     shapeRefusal k (a .sequence) (a .count)
     then firstRefusal k (a .sequence) (firstAddress a) 0 (ownObjects a)
-    then roomRefusal (needed k (a .sequence) (a .count)) room
+    then sizeRefusal (needed k (a .sequence) (a .count)) room
 
 -- the refusal of writing into an output of `room` octets, 0 where there is none: 10, 11, 12, 13, the objects', 17, 18
 unfoldable pub writeRefusal : Asdu → ℕ → ℕ
 writeRefusal a room = pick (causeListed (a .cause)) (writeRefusalBy (kindOf (a .«type_id»)) a room) causeNotListed
 
+-- type; sequence and count; test, negative and cause; originator; common address
 unfoldable pub headerOctets : Asdu → List ℕ
 headerOctets a =
     a .«type_id»
@@ -73,6 +75,7 @@ unfoldable pub addressOctets : Bool → ℕ → List ℕ
 addressOctets true first = leOctets 3 first
 addressOctets false first = []
 
+-- all octets: a writer that accepts a record writes these
 unfoldable pub asduOctets : Asdu → List ℕ
 asduOctets a = headerOctets a ++ (addressOctets (a .sequence) (firstAddress a) ++ objectsOctets (a .sequence) (ownObjects a))
 

@@ -3,7 +3,7 @@ ghost use mathlib.Core.Path.{_≡_};
 ghost use Prim.Native.Nat.{_≤_};
 ghost use lib.ListN.{length};
 ghost use Rattle.elements.specs.Refusals.{refusal};
-ghost use Rattle.asdu.specs.Header.{causeListed, stepOf, needed, layoutRefusal, startRefusal, headerRefusal, headerIn, headerAnswer, headerNumber};
+ghost use Rattle.asdu.specs.Header.{causeListed, stepOf, needed, layoutRefusal, earlyRefusal, headerRefusal, headerIn, headerAnswer, headerNumber};
 use elements::refusals::Refusal;
 use objects::kinds;
 use objects::kinds::Kind;
@@ -125,8 +125,8 @@ fn header_of(s: &[u8], kind: Kind) -> Header
 }
 
 // What is refused before the type is known: 17, 9, 10, 9.
-fn start_refusal(s: &[u8]) -> Refusal
-    ensures { λ r. ⌜ r ≡ refusal (startRefusal (now (s .entry))) ⌝ }
+fn early_refusal(s: &[u8]) -> Refusal
+    ensures { λ r. ⌜ r ≡ refusal (earlyRefusal (now (s .entry))) ⌝ }
 {
     if MAX_SIZE < s.len() {
         return Refusal::ASDU_TOO_LONG;
@@ -147,7 +147,7 @@ fn start_refusal(s: &[u8]) -> Refusal
 pub fn header_refusal(s: &[u8]) -> Refusal
     ensures { λ r. ⌜ r ≡ refusal (headerRefusal (now (s .entry))) ⌝ }
 {
-    let start = start_refusal(s);
+    let start = early_refusal(s);
     if !start.is_none() {
         return start;
     }

@@ -5,7 +5,7 @@ ghost use Prim.Native.Nat.{_+_, _≤_, _<_};
 ghost use lib.ListN.{length, take, drop};
 ghost use lib.Seq.{sets};
 ghost use Rattle.elements.specs.Refusals.{refusal};
-ghost use Rattle.asdu.specs.Writing.{ownObjects, firstAddress, firstRefusal, shapeRefusal, roomRefusal, writeRefusalBy, writeRefusal, headerOctets, addressOctets, bodyOctets, objectsOctets, asduOctets, writeAnswer, written};
+ghost use Rattle.asdu.specs.Writing.{ownObjects, firstAddress, firstRefusal, shapeRefusal, sizeRefusal, writeRefusalBy, writeRefusal, headerOctets, addressOctets, bodyOctets, objectsOctets, asduOctets, writeAnswer, written};
 ghost use Rattle.asdu.specs.Puts.{Put};
 ghost use Rattle.objects.specs.Objects.{objectRefusal};
 ghost use Rattle.objects.specs.declared.kinds.KindAnswer.the-variants.{Carried};
@@ -88,8 +88,8 @@ fn objects_refusal(a: Asdu, kind: Kind) -> Refusal
     later_refusal(a, kind, head.address)
 }
 
-fn room_refusal(n: usize, room: usize) -> Refusal
-    ensures { λ r. ⌜ r ≡ refusal (roomRefusal n room) ⌝ }
+fn size_refusal(n: usize, room: usize) -> Refusal
+    ensures { λ r. ⌜ r ≡ refusal (sizeRefusal n room) ⌝ }
 {
     if header::MAX_SIZE < n {
         return Refusal::ASDU_TOO_LONG;
@@ -112,7 +112,7 @@ fn refusal_by(a: Asdu, kind: Kind, room: usize) -> Refusal
     if !object.is_none() {
         return object;
     }
-    room_refusal(header::needed_len(kind, a.sequence, n as u8), room)
+    size_refusal(header::needed_len(kind, a.sequence, n as u8), room)
 }
 
 // What writing into an output of `room` octets refuses.

@@ -12,6 +12,7 @@ use Rattle.assembly.specs.declared.start.StartAnswer.the-variants as Sta
 use Rattle.assembly.specs.declared.picking.PickAnswer.{PickAnswer}
 use Rattle.assembly.specs.declared.picking.PickAnswer.the-variants.{Carry, Chunk, More, Refused}
 
+-- what stands at the start of the carry, or of the chunk, as an answer that names which
 abbrev pub fromCarry : StartAnswer → PickAnswer
 fromCarry (StartAnswer.Whole n) = Carry n
 fromCarry StartAnswer.More = More
@@ -35,11 +36,11 @@ pickNumber (Chunk n) = 0
 pickNumber More = 0
 pickNumber (Refused r) = r .0
 
-abbrev pub partBy : PickAnswer → List ℕ → List ℕ → List ℕ
-partBy (Carry n) carry chunk = take n carry
-partBy (Chunk n) carry chunk = take n chunk
-partBy More carry chunk = []
-partBy (Refused r) carry chunk = []
+abbrev pub pickPartBy : PickAnswer → List ℕ → List ℕ → List ℕ
+pickPartBy (Carry n) carry chunk = take n carry
+pickPartBy (Chunk n) carry chunk = take n chunk
+pickPartBy More carry chunk = []
+pickPartBy (Refused r) carry chunk = []
 
 unfoldable pub pickPart : List ℕ → ℕ → List ℕ → List ℕ
-pickPart carry held chunk = partBy (pickAnswer carry held chunk) carry chunk
+pickPart carry held chunk = pickPartBy (pickAnswer carry held chunk) carry chunk

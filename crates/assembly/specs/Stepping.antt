@@ -19,10 +19,12 @@ afterMoved m (PickAnswer.Chunk n) = Chunk n
 afterMoved m PickAnswer.More = More m
 afterMoved m (PickAnswer.Refused r) = Refused r
 
+-- where the carry was topped up, picking is tried again
 abbrev pub afterTopUp : List ℕ → ℕ → List ℕ → TopUpAnswer → StepAnswer
 afterTopUp carry held chunk (TopUpAnswer.Moved m) = afterMoved m (pickAnswer (topped carry held chunk) (held + m) chunk)
 afterTopUp carry held chunk (TopUpAnswer.Refused r) = Refused r
 
+-- a frame at once, or topping up where more is needed
 abbrev pub afterPick : List ℕ → ℕ → List ℕ → PickAnswer → StepAnswer
 afterPick carry held chunk (PickAnswer.Carry n) = Carry 0 n
 afterPick carry held chunk (PickAnswer.Chunk n) = Chunk n

@@ -11,29 +11,30 @@ pub data End : Type 0 where
   rest : List ℕ → End
   refused : ℕ → ℕ → End
 
-pub record Outcome : Type 0 where
+pub record StreamOutcome : Type 0 where
   pub frames : List (List ℕ)
   pub end : End
 
-abbrev pub ended : End → Outcome
-ended e = record { frames = []; end = e }
+-- no frame, and this end
+abbrev pub noFrames : End → StreamOutcome
+noFrames e = record { frames = []; end = e }
 
 -- a frame, and then the outcome of what follows it
-abbrev pub handed : List ℕ → Outcome → Outcome
+abbrev pub handed : List ℕ → StreamOutcome → StreamOutcome
 handed f o = record { frames = f ∷ o .frames; end = o .end }
 
 -- by what stands at the start of the bytes from place `at` on; `next` goes on after a frame
-abbrev pub outcomeBy : StartAnswer → ℕ → List ℕ → (ℕ → List ℕ → Outcome) → Outcome
+abbrev pub outcomeBy : StartAnswer → ℕ → List ℕ → (ℕ → List ℕ → StreamOutcome) → StreamOutcome
 outcomeBy (Whole n) at s next = handed (take n s) (next (at + n) (drop n s))
-outcomeBy More at s next = ended (rest s)
-outcomeBy (Refused r) at s next = ended (refused (r .0) at)
+outcomeBy More at s next = noFrames (rest s)
+outcomeBy (Refused r) at s next = noFrames (refused (r .0) at)
 
 -- the first number bounds the frames: a stream has no more of them than bytes
-abbrev pub streamFrom : ℕ → ℕ → List ℕ → Outcome
-streamFrom zero at s = ended (rest s)
+abbrev pub streamFrom : ℕ → ℕ → List ℕ → StreamOutcome
+streamFrom zero at s = noFrames (rest s)
 streamFrom (suc most) at s = outcomeBy (startAnswer s) at s (streamFrom most)
 
-unfoldable pub stream : List ℕ → Outcome
+unfoldable pub stream : List ℕ → StreamOutcome
 stream s = streamFrom (length s) 0 s
 
 -- chunks one after the other

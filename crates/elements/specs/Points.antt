@@ -19,7 +19,7 @@ abbrev pub spiBits : Spi → ℕ
 spiBits Spi.Off = 0
 spiBits Spi.On = 1
 
--- SIQ: spi 0, bl 4, sb 5, nt 6, iv 7; bits 1 to 3 are reserved
+-- SIQ: spi 0, bl 4, sb 5, nt 6, iv 7; bits 1 to 3 are reserved, so octet 0E is off with all marks clear
 abbrev pub siqLayout : Layout
 siqLayout = 1 at 0 ∷ 1 at 4 ∷ 1 at 5 ∷ 1 at 6 ∷ 1 at 7 ∷ []
 

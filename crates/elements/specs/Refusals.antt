@@ -31,7 +31,7 @@ abbrev pub pairSecond : PairAnswer → ℕ
 pairSecond (PairAnswer.Octets a b) = b
 pairSecond (PairAnswer.Refused r) = 0
 
--- the rows
+-- the rows, named as the constants of `Refusal` in the code
 abbrev pub frameTooShort : ℕ
 frameTooShort = 1
 

@@ -1,4 +1,4 @@
--- IEC 60870-5-101: step position, VTI and its quality.
+-- IEC 60870-5-101: value with transient state indication, VTI (step position), and its quality, QDS.
 use Prim.Native.Nat.{ℕ}
 use mathlib.Core.List.{[], _∷_}
 use lib.Dec.{ltb}
@@ -17,11 +17,13 @@ use Rattle.elements.specs.declared.information_elements.Vti.{Vti}
 abbrev pub vtiLayout : Layout
 vtiLayout = 7 at 0 ∷ 1 at 7 ∷ []
 
-abbrev pub stepOf : ℕ → ℤ
-stepOf b = signedOf 7 (field 0 7 b)
+-- the step position: 40 hex is -64, 3F is 63, FF is -1 (with transient set)
+abbrev pub stepPosition : ℕ → ℤ
+stepPosition b = signedOf 7 (field 0 7 b)
 
+-- the two octets: VTI, QDS
 abbrev pub vtiOf : ℕ → ℕ → Vti
-vtiOf a b = record { value = stepOf a; transient = flag 7 a; qds = qdsOf b }
+vtiOf a b = record { value = stepPosition a; transient = flag 7 a; qds = qdsOf b }
 
 abbrev pub vtiOctet : Vti → ℕ
 vtiOctet v = octet vtiLayout (bitsOf 7 (v .value) ∷ num (v .transient) ∷ [])

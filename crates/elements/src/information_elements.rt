@@ -2,7 +2,7 @@
 ghost use mathlib.Core.Path.{_≡_};
 ghost use Prim.Native.Nat.{_≤_};
 ghost use Rattle.elements.specs.Points.{spiOf, spiBits, siqOf, siqOctet, dpiOf, dpiBits, diqOf, diqOctet};
-ghost use Rattle.elements.specs.Steps.{stepOf, vtiOf, vtiAnswer};
+ghost use Rattle.elements.specs.Steps.{stepPosition, vtiOf, vtiAnswer};
 ghost use Rattle.elements.specs.Causes.{coiOf, coiAnswer};
 use crate::numbers;
 use crate::quality_descriptors::Qds;
@@ -143,7 +143,7 @@ pub struct Vti {
 
 // Seven bits as a signed number: bit 6 is the sign, so it is copied to bit 7 first.
 fn step_of(byte: u8) -> i8
-    ensures { λ r. ⌜ r ≡ stepOf byte ⌝ }
+    ensures { λ r. ⌜ r ≡ stepPosition byte ⌝ }
 {
     let bits = byte % 128;
     if bits < 64 {

@@ -1,4 +1,5 @@
--- What the code's answers are, given a call's outcome; what the steps of a call rest on and have done.
+-- What the code's answers are, given a call's outcome. The records from `Makes` on stand in contracts of helpers only: what a step
+-- of a call rests on and has done. No promise speaks of them.
 use Prim.Native.Nat.{ℕ, _+_, _%_, _≤_, _<_}
 use mathlib.Core.Bool.{Bool, false}
 use mathlib.Core.Path.{_≡_}
@@ -27,8 +28,9 @@ answerOf o =
     (LinkAnswer.Done (record { written = length (wire (o .frames)); full = windowFull (o .state); came = o .came }))
     (LinkAnswer.Refused (refusal (o .refused)))
 
-unfoldable pub stepOf : Outcome → Step
-stepOf o = record { state = o .state; answer = answerOf o }
+-- the outcome without its ring, and with it
+unfoldable pub stepFor : Outcome → Step
+stepFor o = record { state = o .state; answer = answerOf o }
 
 unfoldable pub calledOf : Outcome → Called
 calledOf o = record { link = record { times = o .times; state = o .state }; answer = answerOf o }
@@ -73,7 +75,7 @@ pub record HandsOut (g : Making) (at : ℕ) (out : List ℕ) (r : Made) (times�
 
 -- an event has done what its outcome says: with the ring lent, and with the pool lent too
 pub record Answers (o : Outcome) (out : List ℕ) (r : Step) (out′ : List ℕ) : Type 0 where
-  pub step : r ≡ stepOf o
+  pub step : r ≡ stepFor o
   pub octets : out′ ≡ sets out 0 (wire (o .frames))
 
 pub record Does (o : Outcome) (out : List ℕ) (r : Step) (times′ out′ : List ℕ) : Type 0 where

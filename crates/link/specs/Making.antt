@@ -102,7 +102,7 @@ unfoldable pub flushed : ℕ → ℕ → List ℕ → Making → Making
 flushed zero now pool g = g
 flushed (suc n) now pool g = letOut now pool (flushed n now pool g)
 
--- "send waiting ASDUs while the window is open": all that wait, or as many as the window takes
+-- "send waiting ASDUs while the window is open": how many, which is all that wait or as many as the window takes
 unfoldable pub room : State → ℕ
 room s = min (s .queue .count) (s .settings .k - s .window .held)
 

@@ -29,7 +29,7 @@ use Rattle.link.specs.Frames.{Frame, iFrame, sFrame, uFrame, stopAct, stopCon, 
 use Rattle.link.specs.Events.{Event, frame, send, stop, test, tick, isDue}
 use Rattle.link_meaning.specs.Abstract.{Abstract, Progress, Result, onWire, isOpen, fits, freedBy, free, count, sendOne, queue, timing, settle, setClock, ended, begin, change, add, sendOut, flush, letting, confirmAll, testOut, mustConfirm, finish, accept, refuse, close, outstanding, t1uFrom, t2From, t3From, testFrom, testAnswered, stopLink, stepS, stepI, stepU, stepFrame, stepPlain, stepSend, stepStop, manyOpen, stepTest, tickNumber, tickT2, tickT3, stepTick, step}
 use Rattle.link_meaning.specs.Runs.{Within}
-use Rattle.link_meaning.specs.Effects.{asdusOf, Numbered, freesBy, countsBy, frees, counts, takes, Effect, HasEffect, Fitting, AcceptsExactly}
+use Rattle.link_meaning.specs.Effects.{asdusOf, Numbered, freesBy, countsBy, frees, counts, takes, Effect, HasEffect, SomeFits, AcceptsExactly}
 
 -- ---- frames in a row
 
@@ -406,8 +406,8 @@ accepts-exactly now more a sent number w h =
     let k = w .window in
     let k32 = w .k-high in
     let law = window 32768 (a .confirmed) (a .sent) number (w .confirmed) (omega arith) h in
-    let into : fits number a ≡ true → Fitting a number = λ e. (a .confirmed + freedBy number a, law .some (leb-true (a .confirmed + freedBy number a) (a .sent) e)) in
-    let back : Fitting a number → fits number a ≡ true = λ k. le-leb (a .confirmed + freedBy number a) (a .sent) (let one = law .one (k .0) (k .1) in let most = k .1 .most in omega arith) in
+    let into : fits number a ≡ true → SomeFits a number = λ e. (a .confirmed + freedBy number a, law .some (leb-true (a .confirmed + freedBy number a) (a .sent) e)) in
+    let back : SomeFits a number → fits number a ≡ true = λ k. le-leb (a .confirmed + freedBy number a) (a .sent) (let one = law .one (k .0) (k .1) in let most = k .1 .most in omega arith) in
     record {
       s-frame = (
         (λ e. into (held (fits number a) 26 0 (sym (refused-s number more now a) ∙ e) .0)),

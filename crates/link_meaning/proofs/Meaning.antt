@@ -33,7 +33,7 @@ use Rattle.link.specs.Frames.{uWith, stopAct, stopCon, testAct, testCon}
 use Rattle.link.specs.Making.{Making, windowOpen, become, ending}
 use Rattle.link.specs.Events.{Outcome, refusing, closing, accepting, start, sFreeing, onS, received, iFreeing, onI, stopped, testActed, testConfirmed, onU, onAnswer, onFrame, sendPlain, sendBy, onSend, onStop, tooMany, onTest, isDue, t1iDue, tickRefusal, tickedT2, tickedT3, ticked, onTick, Event, frame, send, stop, test, tick, eventOutcome, called}
 use Rattle.link_meaning.specs.Abstract.{Abstract, Progress, Result, freedBy, fits, count, queue, timing, t1uFrom, t2From, t3From, testAnswered, begin, change, letting, finish, accept, refuse, close, stepS, stepI, stopLink, stepU, stepFrame, stepPlain, stepSend, stepStop, manyOpen, stepTest, oldestDue, tickNumber, tickT2, tickT3, stepTick, fresh, step}
-use Rattle.link_meaning.specs.Meaning.{timesOf, waitingOf, Means, Same, OctetsIn, OpensFresh, StepsAlike}
+use Rattle.link_meaning.specs.Meaning.{timesOf, waitingOf, Means, SameOutcome, OctetsIn, OpensFresh, StepsAlike}
 use Rattle.link_meaning.proofs.Good.{Good, sound-good, good-received}
 use Rattle.link_meaning.proofs.Sizes.{plain-sized}
 use Rattle.link_meaning.proofs.Pieces.{Alike, means-received, means-timing, means-clock, means-shut, means-queued, means-count, means-open, means-acknowledged, alike-add, alike-hand, alike-release, alike-confirm, alike-timing, alike-tested, alike-finish}
@@ -83,7 +83,7 @@ read-small f o =
 
 -- ---- choices by the same test
 
-same-pick : (b c : Bool) {o q : Outcome} {r t : Result} → b ≡ c → (b ≡ true → Same o r) → (b ≡ false → Same q t) → Same (pick b o q) (pick c r t)
+same-pick : (b c : Bool) {o q : Outcome} {r t : Result} → b ≡ c → (b ≡ true → SameOutcome o r) → (b ≡ false → SameOutcome q t) → SameOutcome (pick b o q) (pick c r t)
 same-pick true true e f g = f refl
 same-pick true false e f g = absurd (false≢true (sym e))
 same-pick false true e f g = absurd (false≢true e)
@@ -104,7 +104,7 @@ oldest f m p (suc n) t1 now h =
 
 -- ---- ends of a call
 
-same-accept : (came : Bool) (pool : List ℕ) (g : Making) (p : Progress) → Alike g pool p → Same (accepting came pool g) (accept came p)
+same-accept : (came : Bool) (pool : List ℕ) (g : Making) (p : Progress) → Alike g pool p → SameOutcome (accepting came pool g) (accept came p)
 unfolding accepting accept
 same-accept came pool g p like = record { refused = refl; frames = like .frames; came = refl; means = like .means }
 
@@ -112,15 +112,15 @@ module _ (s : State) (times pool : List ℕ) (now : ℕ) (a : Abstract) (good : 
   begins : Alike (start s times) pool (begin a)
   begins = record { means = m; frames = refl }
 
-  same-refuse : (n : ℕ) → Same (refusing n s times pool) (refuse n a)
+  same-refuse : (n : ℕ) → SameOutcome (refusing n s times pool) (refuse n a)
   unfolding refusing refuse
   same-refuse n = record { refused = refl; frames = refl; came = refl; means = m }
 
-  same-close : (n : ℕ) → Same (closing n s times pool) (close n a)
+  same-close : (n : ℕ) → SameOutcome (closing n s times pool) (close n a)
   unfolding closing close
   same-close n = record { refused = refl; frames = refl; came = refl; means = means-shut s times pool a m n }
 
-  same-end : (came more : Bool) (g : Making) (p : Progress) → Alike g pool p → Same (accepting came pool (ending more now g)) (accept came (finish more now p))
+  same-end : (came more : Bool) (g : Making) (p : Progress) → Alike g pool p → SameOutcome (accepting came pool (ending more now g)) (accept came (finish more now p))
   same-end came more g p like = same-accept came pool _ _ (alike-finish now pool more g p like)
 
   -- ---- frames
@@ -139,19 +139,19 @@ module _ (s : State) (times pool : List ℕ) (now : ℕ) (a : Abstract) (good : 
       let l = leb-true (a .confirmed + freedBy number a) (a .sent) e in
       omega arith
 
-  same-s : (number : ℕ) (more : Bool) → number ≤ 32767 → Same (onS number s times pool more now) (stepS number more now a)
+  same-s : (number : ℕ) (more : Bool) → number ≤ 32767 → SameOutcome (onS number s times pool more now) (stepS number more now a)
   unfolding onS stepS
   same-s number more h = rw (acknowledges number h) (by (fits number a) refl)
     where
       by : (b : Bool) → fits number a ≡ b
-          → Same (sFreeing (pick b (AckAnswer.Frees (freedBy number a)) (AckAnswer.Refused (refusal wrongReceiveNumber))) s times pool more now)
+          → SameOutcome (sFreeing (pick b (AckAnswer.Frees (freedBy number a)) (AckAnswer.Refused (refusal wrongReceiveNumber))) s times pool more now)
           (pick b (accept false (finish more now (change (timing (t3From now)) (letting (freedBy number a) now a)))) (close wrongReceiveNumber a))
       by true e =
           unfold sFreeing in
           same-end false more _ _ (alike-timing pool (t3From now) _ _ (alike-release now pool (freedBy number a) s times a (within number e) good m))
       by false e = unfold sFreeing in same-close wrongReceiveNumber
 
-  same-i : (sent number : ℕ) (more : Bool) → number ≤ 32767 → Same (onI sent number s times pool more now) (stepI sent number more now a)
+  same-i : (sent number : ℕ) (more : Bool) → number ≤ 32767 → SameOutcome (onI sent number s times pool more now) (stepI sent number more now a)
   unfolding onI stepI
   same-i sent number more h =
       same-pick (eqb sent (s .receive .next .0)) (eqb sent (a .received % 32768)) (ap (eqb sent) (m .recv))
@@ -159,7 +159,7 @@ module _ (s : State) (times pool : List ℕ) (now : ℕ) (a : Abstract) (good : 
       (λ t. same-close wrongSendNumber)
     where
       by : (b : Bool) → fits number a ≡ b
-          → Same (iFreeing (pick b (AckAnswer.Frees (freedBy number a)) (AckAnswer.Refused (refusal wrongReceiveNumber))) s times pool more now)
+          → SameOutcome (iFreeing (pick b (AckAnswer.Frees (freedBy number a)) (AckAnswer.Refused (refusal wrongReceiveNumber))) s times pool more now)
           (pick b
           (accept true (finish more now (change (timing (t3From now)) (change (timing (t2From now)) (letting (freedBy number a) now (count a))))))
           (close wrongReceiveNumber a))
@@ -171,13 +171,13 @@ module _ (s : State) (times pool : List ℕ) (now : ℕ) (a : Abstract) (good : 
           (alike-release now pool (freedBy number a) (received s) times (count a) (unfold received in within number e) (good-received s times now good) (means-received s times pool a m))))
       by false e = unfold iFreeing in same-close wrongReceiveNumber
 
-  same-stopped : (g : Making) (p : Progress) → Alike g pool p → Same (accepting false pool (become (stopped now) g)) (accept false (change (stopLink now) p))
+  same-stopped : (g : Making) (p : Progress) → Alike g pool p → SameOutcome (accepting false pool (become (stopped now) g)) (accept false (change (stopLink now) p))
   same-stopped g p like =
       let t = means-timing (g .state) (g .times) pool (p .link) (like .means) (t3From now) in
       let c = means-clock _ (g .times) pool _ t now in
       same-accept false pool _ _ (record { means = means-shut _ (g .times) pool _ c 0; frames = like .frames })
 
-  same-u : (u : UFrame) (more : Bool) → Same (onU u s times pool more now) (stepU u more now a)
+  same-u : (u : UFrame) (more : Bool) → SameOutcome (onU u s times pool more now) (stepU u more now a)
   unfolding onU testActed testConfirmed stepU
   same-u u more =
       same-pick (eqb (uOctet u) testAct) (eqb (uOctet u) testAct) refl
@@ -193,7 +193,7 @@ module _ (s : State) (times pool : List ℕ) (now : ℕ) (a : Abstract) (good : 
       (λ t. same-stopped _ _ begins)
       (λ t. same-close uNotAnswered))))
 
-  same-answer : (f : FrameAnswer) (more : Bool) → Small f → Same (onAnswer f s times pool more now) (stepFrame f more now a)
+  same-answer : (f : FrameAnswer) (more : Bool) → Small f → SameOutcome (onAnswer f s times pool more now) (stepFrame f more now a)
   unfolding onAnswer stepFrame
   same-answer (FrameAnswer.I sent number) more h = same-i (sent .0) (number .0) more (h .low)
   same-answer (FrameAnswer.S number) more h = same-s (number .0) more (h .low)
@@ -202,7 +202,7 @@ module _ (s : State) (times pool : List ℕ) (now : ℕ) (a : Abstract) (good : 
 
   -- ---- send
 
-  same-plain : (asdu : List ℕ) → length asdu ≤ 249 → Same (sendPlain asdu s times pool now) (stepPlain asdu now a)
+  same-plain : (asdu : List ℕ) → length asdu ≤ 249 → SameOutcome (sendPlain asdu s times pool now) (stepPlain asdu now a)
   unfolding sendPlain windowOpen stepPlain
   same-plain asdu h =
       let q = good .queue in
@@ -221,7 +221,7 @@ module _ (s : State) (times pool : List ℕ) (now : ℕ) (a : Abstract) (good : 
       (alike-finish now _ false _ _
       (record { means = means-queued s times pool a m asdu (omega arith) (q .slots) h room (λ i n. q .lengths i n .1); frames = refl }))))
 
-  same-send : (asdu : List ℕ) (p : PlainAnswer) → plainAnswer asdu ≡ p → Same (sendBy p asdu s times pool now) (stepSend p asdu now a)
+  same-send : (asdu : List ℕ) (p : PlainAnswer) → plainAnswer asdu ≡ p → SameOutcome (sendBy p asdu s times pool now) (stepSend p asdu now a)
   unfolding sendBy stepSend
   same-send asdu PlainAnswer.Plain e = same-plain asdu (plain-sized asdu e .1)
   same-send asdu PlainAnswer.Reserved e = same-refuse notPlainForm
@@ -229,7 +229,7 @@ module _ (s : State) (times pool : List ℕ) (now : ℕ) (a : Abstract) (good : 
 
   -- ---- stop, test, tick
 
-  same-stop : Same (onStop s times pool now) (stepStop now a)
+  same-stop : SameOutcome (onStop s times pool now) (stepStop now a)
   unfolding onStop stepStop
   same-stop = same-end false false _ _ (alike-timing pool (t1uFrom now) _ _ (alike-confirm pool _ _ (alike-add pool (uWith stopAct) _ _ begins)))
 
@@ -237,7 +237,7 @@ module _ (s : State) (times pool : List ℕ) (now : ℕ) (a : Abstract) (good : 
   unfolding tooMany manyOpen
   many = ap (λ (t : Timers). ltb 2 (t .tests)) (m .timers)
 
-  same-test : Same (onTest s times pool now) (stepTest now a)
+  same-test : SameOutcome (onTest s times pool now) (stepTest now a)
   unfolding onTest stepTest
   same-test = same-pick (tooMany s) (manyOpen a) many (λ t. same-close tooManyTests) (λ t. same-end false false _ _ (alike-tested now pool _ _ begins))
 
@@ -252,7 +252,7 @@ module _ (s : State) (times pool : List ℕ) (now : ℕ) (a : Abstract) (good : 
   unfolding tickRefusal tickNumber
   tick-number = cc (m .timers, oldest-due, many)
 
-  same-tick : Same (onTick s times pool now) (stepTick now a)
+  same-tick : SameOutcome (onTick s times pool now) (stepTick now a)
   unfolding onTick ticked tickedT2 tickedT3 stepTick tickT2 tickT3
   same-tick =
       same-pick (eqb (tickRefusal s times now) 0) (eqb (tickNumber now a) 0) (ap (λ (n : ℕ). eqb n 0) tick-number)
@@ -262,7 +262,7 @@ module _ (s : State) (times pool : List ℕ) (now : ℕ) (a : Abstract) (good : 
       (alike-pick (isDue (s .timers .t3) now) (isDue (a .timers .t3) now) pool (ap (λ (x : Timers). isDue (x .t3) now) (m .timers)) (alike-tested now pool _ _ confirmed) confirmed))
       (λ t. rw tick-number (same-close (tickNumber now a)))
 
-  same-event : (e : Event) → OctetsIn e → Same (eventOutcome e s times pool now) (step e now a)
+  same-event : (e : Event) → OctetsIn e → SameOutcome (eventOutcome e s times pool now) (step e now a)
   unfolding eventOutcome onFrame onSend step
   same-event (frame f more) o = same-answer (frameAnswer f) more (read-small f o)
   same-event (send asdu) o = same-send asdu (plainAnswer asdu) refl

@@ -12,15 +12,15 @@ use Rattle.laws.proofs.Choices.{passed, both}
 use Rattle.elements.specs.Refusals.{refusal}
 use Rattle.objects.specs.Kinds.{kindOf}
 use Rattle.objects.specs.declared.kinds.KindAnswer.{KindAnswer}
-use Rattle.asdu.specs.Header.{causeListed, causeIn, startRefusal, headerRefusal, headerBy, headerAnswer}
+use Rattle.asdu.specs.Header.{causeListed, causeIn, earlyRefusal, headerRefusal, headerBy, headerAnswer}
 use Rattle.asdu.specs.Reading.{refusalBy, readRefusal}
 use Rattle.asdu.specs.Plain.{plainBy, plainAnswer}
 use Rattle.asdu.specs.declared.header.HeaderAnswer.the-variants as HeaderAnswer
 use Rattle.asdu.specs.declared.PlainAnswer.{PlainAnswer}
 use Rattle.asdu.specs.declared.PlainAnswer.the-variants as PlainAnswer
 
-start-sized : (s : List ℕ) → startRefusal s ≡ 0 → (6 ≤ length s) × (length s ≤ 249)
-unfolding startRefusal
+start-sized : (s : List ℕ) → earlyRefusal s ≡ 0 → (6 ≤ length s) × (length s ≤ 249)
+unfolding earlyRefusal
 start-sized s h =
     let long = passed (ltb 249 (length s)) 16 _ h in
     let short = passed (ltb (length s) 3) 8 _ (long .1) in
@@ -35,7 +35,7 @@ header-passed s k false e h = h
 
 read-sized : (s : List ℕ) → readRefusal s ≡ 0 → (6 ≤ length s) × (length s ≤ 249)
 unfolding readRefusal headerAnswer headerRefusal
-read-sized s h = start-sized s (both (startRefusal s) _ (header-passed s (kindOf (getD s 0 0)) (eqb (headerRefusal s) 0) refl h) .0)
+read-sized s h = start-sized s (both (earlyRefusal s) _ (header-passed s (kindOf (getD s 0 0)) (eqb (headerRefusal s) 0) refl h) .0)
 
 -- of a plain answer too
 told : (s : List ℕ) (b c : Bool) → eqb (readRefusal s) 0 ≡ b

@@ -83,14 +83,14 @@ abbrev pub HasEffect : Type 0
 HasEffect = (e : Event) (now : ℕ) (a : Abstract) → Within a → Effect e now a (step e now a)
 
 -- some total from A to S has the number as remainder
-abbrev pub Fitting : Abstract → ℕ → Type 0
-Fitting a number = (c : ℕ) × Confirms 32768 (a .confirmed) (a .sent) number c
+abbrev pub SomeFits : Abstract → ℕ → Type 0
+SomeFits a number = (c : ℕ) × Confirms 32768 (a .confirmed) (a .sent) number c
 
 -- "A well-formed S frame is accepted exactly if some whole a from A to S has its receive number as remainder by 32,768; an I frame
 -- exactly if its send number is also R's remainder. That a is unique"
 pub record Exact (now : ℕ) (more : Bool) (a : Abstract) (sent number : ℕ) : Type 0 where
-  pub s-frame : (stepS number more now a .refused ≡ 0) ↔ Fitting a number
-  pub i-frame : (stepI sent number more now a .refused ≡ 0) ↔ ((sent ≡ onWire (a .received)) × Fitting a number)
+  pub s-frame : (stepS number more now a .refused ≡ 0) ↔ SomeFits a number
+  pub i-frame : (stepI sent number more now a .refused ≡ 0) ↔ ((sent ≡ onWire (a .received)) × SomeFits a number)
   pub unique : (c : ℕ) → Confirms 32768 (a .confirmed) (a .sent) number c → c ≡ a .confirmed + freed 32768 (a .confirmed) number
 
 abbrev pub AcceptsExactly : Type 0

@@ -39,7 +39,7 @@ pub record Means (s : State) (times pool : List ℕ) (a : Abstract) : Type 0 whe
   pub clock : s .clock ≡ a .clock
 
 -- the same number, the same frames, the same mark, and links of the same meaning
-pub record Same (o : Outcome) (r : Result) : Type 0 where
+pub record SameOutcome (o : Outcome) (r : Result) : Type 0 where
   pub refused : o .refused ≡ r .refused
   pub frames : o .frames ≡ r .frames
   pub came : o .came ≡ r .came
@@ -61,4 +61,4 @@ OpensFresh = (s : Settings) (now : ℕ) (pool : List ℕ) → openRefusal s now 
 -- a call that is not refused under 19 to 24 does on the code's link what the event does on the link that it means
 abbrev pub StepsAlike : Type 0
 StepsAlike = (e : Event) (l : Link) (pool : List ℕ) (output now : ℕ) (a : Abstract) → Shaped l → OctetsIn e
-    → callRefusal l output (length pool) now ≡ 0 → Means (l .state) (l .times) pool a → Same (called e l pool output now) (step e now a)
+    → callRefusal l output (length pool) now ≡ 0 → Means (l .state) (l .times) pool a → SameOutcome (called e l pool output now) (step e now a)

@@ -8,7 +8,9 @@ use Rattle.elements.specs.Refusals.{refusal, outsideLimits, wrongReceiveNumber}
 use Rattle.link_state.specs.declared.acknowledging.AckAnswer.{AckAnswer}
 use Rattle.link_state.specs.declared.acknowledging.AckAnswer.the-variants as AckAnswer
 
--- how far a number received lies after the oldest of `held` frames that end before number `next`
+-- how many frames a receive number confirms, `next` being the number of the next frame to be sent and `held` the frames
+-- outstanding, so that the oldest has the number next - held, going round. With next 5 and held 3 the number 2 confirms none,
+-- 5 confirms three, and 1 would confirm 32,767
 unfoldable pub confirms : ℕ → ℕ → ℕ → ℕ
 confirms next held received = freed 32768 (next + 32768 - held) received
 
@@ -16,7 +18,7 @@ confirms next held received = freed 32768 (next + 32768 - held) received
 unfoldable pub numbersInLimits : ℕ → ℕ → ℕ → Bool
 numbersInLimits next held received = leb next 32767 && leb held 32767 && leb received 32767
 
--- 27 where the number lies past the window
+-- 27 where that is more than are outstanding; 19 for numbers that no link has
 unfoldable pub ackRefusal : ℕ → ℕ → ℕ → ℕ
 ackRefusal next held received =
     pick (numbersInLimits next held received)

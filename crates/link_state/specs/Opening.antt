@@ -13,6 +13,7 @@ use Rattle.link_state.specs.declared.opening.OpenedLink.{OpenedLink}
 use Rattle.link_state.specs.declared.opening.OpenAnswer.{OpenAnswer}
 use Rattle.link_state.specs.declared.opening.OpenAnswer.the-variants as OpenAnswer
 
+-- a deadline that is not set, and one that is due from a moment on
 abbrev pub unset : Deadline
 unset = record { on = false; at = 0 }
 

@@ -18,7 +18,7 @@ use Rattle.link.specs.declared.answers.LinkAnswer.the-variants as LinkAnswer
 use Rattle.link.specs.declared.answers.Step.{Step}
 use Rattle.link.specs.Frames.{wire}
 use Rattle.link.specs.Events.{Event, refusing, eventOutcome, called}
-use Rattle.link.specs.Contracts.{Does, DoesSend, Calm, Aged, Open, answerOf, stepOf, calledOf}
+use Rattle.link.specs.Contracts.{Does, DoesSend, Calm, Aged, Open, answerOf, stepFor, calledOf}
 
 -- ---- a passed check
 
@@ -94,7 +94,7 @@ module _ (e : Event) (l : Link) (pool out : List ℕ) (now : ℕ) where
     pub call-does : Does (eventOutcome e (l .state) (l .times) pool now) out r ts₁ out₁
         → (callOf ts₁ r ≡ calledOf (called e l pool (length out) now))
         × (out₁ ≡ sets out 0 (wire (called e l pool (length out) now .frames)))
-    unfolding called calledOf stepOf
+    unfolding called calledOf stepFor
     call-does d = (rw (passes, d .ring, d .answers .step), rw passes (d .answers .octets))
 
     pub call-sends : {pool₁ : List ℕ} → DoesSend (eventOutcome e (l .state) (l .times) pool now) out r ts₁ pool₁ out₁

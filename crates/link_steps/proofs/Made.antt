@@ -19,7 +19,7 @@ use lib.Dec.{eqb}
 use Rattle.link.specs.Frames.{Frame, iFrame, sFrame, uWith, octetsOf, wire, testAct}
 use Rattle.link.specs.Making.{Making, become, say, sentOf, confirm, confirmedOf, tested, testedOf, ending, handOut, letOut, due, withClock, shut}
 use Rattle.link.specs.Events.{start, accepting, closing, refusing}
-use Rattle.link.specs.Contracts.{Makes, HandsOut, Answers, madeOf, doneStep, refusedStep, stepOf, answerOf}
+use Rattle.link.specs.Contracts.{Makes, HandsOut, Answers, madeOf, doneStep, refusedStep, stepFor, answerOf}
 use Rattle.link_steps.proofs.Stored.{wire-append, wire-one, i-length, s-length, u-length}
 
 -- frames before those of a call in the making
@@ -147,15 +147,15 @@ ending-appends more now g = go (due (g .state) more)
 
 pub answers-accepting : (came : Bool) (pool : List ℕ) {g : Making} {out out₁ : List ℕ} {m : Made} {r : Step}
     → Makes g 0 out m out₁ → r ≡ doneStep (m .state) (m .end) came → Answers (accepting came pool g) out r out₁
-unfolding accepting stepOf answerOf doneStep
+unfolding accepting stepFor answerOf doneStep
 answers-accepting came pool one e = record { step = rw (e, one .state, one .end, zero-add); octets = one .octets }
 
 pub answers-closing : (k : ℕ) (s : State) (ts pool out : List ℕ) {r : Step}
     → eqb k 0 ≡ false → r ≡ refusedStep (shut k s) k → Answers (closing k s ts pool) out r out
-unfolding closing stepOf answerOf refusedStep wire
+unfolding closing stepFor answerOf refusedStep wire
 answers-closing k s ts pool out some e = record { step = rw some e; octets = refl }
 
 pub answers-refusing : (k : ℕ) (s : State) (ts pool out : List ℕ) {r : Step}
     → eqb k 0 ≡ false → r ≡ refusedStep s k → Answers (refusing k s ts pool) out r out
-unfolding refusing stepOf answerOf refusedStep wire
+unfolding refusing stepFor answerOf refusedStep wire
 answers-refusing k s ts pool out some e = record { step = rw some e; octets = refl }

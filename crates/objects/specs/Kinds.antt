@@ -37,11 +37,12 @@ abbrev pub kinds : List Kind
 kinds =
     MSpNa1 ∷ MDpNa1 ∷ MStNa1 ∷ MBoNa1 ∷ MMeNa1 ∷ MMeNb1 ∷ MMeNc1 ∷ MItNa1 ∷ MMeNd1 ∷ MEiNa1 ∷ CIcNa1 ∷ CCiNa1 ∷ CRdNa1 ∷ []
 
--- the kind of the list that has this number
+-- the kind of the list that has this number, if there is one
 abbrev pub among : List Kind → ℕ → KindAnswer
 among [] t = NotCarried
 among (k ∷ ks) t = pick (eqb t (typeOf k)) (Carried k) (among ks t)
 
+-- the kind of a type number
 abbrev pub kindOf : ℕ → KindAnswer
 kindOf t = among kinds t
 
@@ -67,9 +68,11 @@ formOf CIcNa1 = whole ∷ []
 formOf CCiNa1 = whole ∷ []
 formOf CRdNa1 = []
 
+-- the octets of an element: 5 for a counter, 0 for type 102
 abbrev pub sizeOf : Kind → ℕ
 sizeOf k = length (formOf k)
 
+-- the kind that a value belongs to
 abbrev pub valueKind : Value → Kind
 valueKind (Value.MSpNa1 q) = MSpNa1
 valueKind (Value.MDpNa1 q) = MDpNa1

@@ -1,4 +1,4 @@
--- One information object: an address of three octets and an element, and what is refused of it.
+-- IEC 60870-5-101: one information object, an address of three octets and an element, and what is refused of it.
 use Prim.Native.Nat.{ℕ, _+_}
 use mathlib.Core.Bool.{Bool, false}
 use mathlib.Core.List.{List, _++_}
@@ -37,15 +37,15 @@ abbrev pub objectNumber : ObjectAnswer → ℕ
 objectNumber (ObjectAnswer.Object o) = 0
 objectNumber (ObjectAnswer.Refused r) = r .0
 
-abbrev pub objectIn : ObjectAnswer → Object
-objectIn (ObjectAnswer.Object o) = o
-objectIn (ObjectAnswer.Refused r) = blank
+abbrev pub objectGiven : ObjectAnswer → Object
+objectGiven (ObjectAnswer.Object o) = o
+objectGiven (ObjectAnswer.Refused r) = blank
 
 -- writing: 16 where the value is not of the type's kind
 unfoldable pub kindRefusal : Kind → Value → ℕ
 kindRefusal k v = pick (eqb (typeOf (valueKind v)) (typeOf k)) 0 wrongKind
 
--- 14 where the address does not fit three octets or, in a sequence, is not the first and the index
+-- 14 where the address does not fit three octets or, in a sequence, is not the first address plus the index i
 unfoldable pub addressRefusal : Bool → ℕ → ℕ → ℕ → ℕ
 addressRefusal sequence first i a =
     pick (ltb 16777215 a) wrongAddress (pick sequence (pick (eqb a (first + i)) 0 wrongAddress) 0)

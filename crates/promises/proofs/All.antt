@@ -11,6 +11,7 @@ use Rattle.promises.proofs.Answered.{answers}
 use Rattle.promises.proofs.FrameBack.{frame-reads-back}
 use Rattle.promises.proofs.FrameAgain.{frame-writes-again}
 use Rattle.promises.proofs.FrameTells.{frame-tells}
+use Rattle.promises.proofs.FrameAccepts.{frame-accepts}
 use Rattle.promises.proofs.CutFree.{cut-independent, in-place}
 use Rattle.promises.proofs.Cuts.{cuts}
 use Rattle.promises.proofs.Parts.{hands-back}
@@ -23,7 +24,7 @@ pub asdu-level : AsduLevel
 asdu-level = record { back = reads-back; again = writes-again; tells = tells; accepts = accepts; answers = answers }
 
 pub frame-level : FrameLevel
-frame-level = record { back = frame-reads-back; again = frame-writes-again; tells = frame-tells }
+frame-level = record { back = frame-reads-back; again = frame-writes-again; tells = frame-tells; accepts = frame-accepts }
 
 pub stream-level : StreamLevel
 stream-level = record { cut = cut-independent; cuts = cuts; uncopied = in-place; part = hands-back }

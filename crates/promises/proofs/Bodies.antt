@@ -26,7 +26,7 @@ use Rattle.objects.specs.declared.kinds.KindAnswer.{KindAnswer}
 use Rattle.objects.specs.declared.kinds.KindAnswer.the-variants.{Carried, NotCarried}
 use Rattle.objects.specs.declared.Object.{Object}
 use Rattle.objects.proofs.TypeNumbers.{kind-type, type-kind}
-use Rattle.asdu.specs.Header.{countLayout, causeLayout, causeListed, needed, sequenceIn, countIn, causeIn, headerIn, startRefusal, layoutRefusal, kindRefusal, headerRefusal, headerBy, headerAnswer}
+use Rattle.asdu.specs.Header.{countLayout, causeLayout, causeListed, needed, sequenceIn, countIn, causeIn, headerIn, earlyRefusal, layoutRefusal, headerRefusalBy, headerRefusal, headerBy, headerAnswer}
 use Rattle.asdu.specs.Records.{filled, blanks, asduOf}
 use Rattle.asdu.specs.Reading.{objectsRefusal, objectsIn, refusalBy, readRefusal, readBody, readAsdu}
 use Rattle.asdu.specs.declared.Answer.{Answer}
@@ -89,8 +89,8 @@ pub record Headed (k : Kind) (s : List ℕ) : Type 0 where
   pub long : length s ≡ needed k (sequenceIn s) (countIn s)
   pub some : sequenceIn s ≡ true → (1 ≤ countIn s) × (1 ≤ sizeOf k)
 
-starts : (s : List ℕ) → length s ≤ 249 → 6 ≤ length s → causeListed (causeIn s) ≡ true → startRefusal s ≡ 0
-unfolding startRefusal
+starts : (s : List ℕ) → length s ≤ 249 → 6 ≤ length s → causeListed (causeIn s) ≡ true → earlyRefusal s ≡ 0
+unfolding earlyRefusal
 starts s h g c = rw (le-ltb 249 (length s) h, le-ltb (length s) 3 (omega arith), c, le-ltb (length s) 6 g)
 
 laid-out : (k : Kind) (s : List ℕ) → Headed k s → layoutRefusal k (sequenceIn s) (countIn s) (length s) ≡ 0
@@ -201,8 +201,8 @@ record Started (s : List ℕ) : Type 0 where
   six : 6 ≤ length s
   listed : causeListed (causeIn s) ≡ true
 
-started : (s : List ℕ) → startRefusal s ≡ 0 → Started s
-unfolding startRefusal
+started : (s : List ℕ) → earlyRefusal s ≡ 0 → Started s
+unfolding earlyRefusal
 started s h =
     let a = passed (ltb 249 (length s)) 16 _ h in
     let b = passed (ltb (length s) 3) 8 _ (a .1) in
@@ -210,7 +210,7 @@ started s h =
     let d = passed (ltb (length s) 6) 8 _ (c .1) in
     record { short = ltb-false 249 (length s) (a .0); six = ltb-false (length s) 6 (d .0); listed = not-false (causeListed (causeIn s)) (c .0) }
 
-by-kind : (f : KindAnswer) (s : List ℕ) → kindOf (getD s 0 0) ≡ f → Started s → kindRefusal f s ≡ 0 → refusalBy (headerBy f s) s ≡ 0 → (k : Kind) × Accepted k s
+by-kind : (f : KindAnswer) (s : List ℕ) → kindOf (getD s 0 0) ≡ f → Started s → headerRefusalBy f s ≡ 0 → refusalBy (headerBy f s) s ≡ 0 → (k : Kind) × Accepted k s
 unfolding layoutRefusal
 by-kind NotCarried s f t h g = absurd (omega arith)
 by-kind (Carried k) s f t h g =
@@ -233,9 +233,9 @@ header-zero s h = by (eqb (headerRefusal s) 0) refl h
     by true e g = (eqb-true (headerRefusal s) 0 e, g)
     by false e g = absurd (eqb-false (headerRefusal s) 0 e g)
 
-header-both : (s : List ℕ) → headerRefusal s ≡ 0 → (startRefusal s ≡ 0) × (kindRefusal (kindOf (getD s 0 0)) s ≡ 0)
+header-both : (s : List ℕ) → headerRefusal s ≡ 0 → (earlyRefusal s ≡ 0) × (headerRefusalBy (kindOf (getD s 0 0)) s ≡ 0)
 unfolding headerRefusal
-header-both s h = both (startRefusal s) (kindRefusal (kindOf (getD s 0 0)) s) h
+header-both s h = both (earlyRefusal s) (headerRefusalBy (kindOf (getD s 0 0)) s) h
 
 -- what is not refused is accepted, as some kind
 pub accepted : (s : List ℕ) → readRefusal s ≡ 0 → (k : Kind) × Accepted k s

@@ -12,7 +12,7 @@ use Rattle.elements.specs.declared.refusals.Refusal.{Refusal}
 use Rattle.assembly.specs.Start.{startAnswer}
 use Rattle.assembly.specs.Topping.{onHand}
 use Rattle.assembly.specs.Stepping.{stepCarry}
-use Rattle.assembly.specs.Streams.{rest, refused, ended, handed, outcomeBy, streamFrom, stream, joined}
+use Rattle.assembly.specs.Streams.{rest, refused, noFrames, handed, outcomeBy, streamFrom, stream, joined}
 use Rattle.assembly.specs.declared.start.StartAnswer.{StartAnswer}
 use Rattle.assembly.specs.declared.start.StartAnswer.the-variants.{Whole, More, Refused}
 use Rattle.assembly.specs.declared.stepping.StepAnswer.{StepAnswer}
@@ -23,11 +23,11 @@ use Rattle.promises.specs.Streams.{runBy, runFrom, steps, run, CutIndepe
 
 -- ---- a stream by what stands at its start
 
-stream-more : (most at : ℕ) (s : List ℕ) → startAnswer s ≡ More → streamFrom most at s ≡ ended (rest s)
+stream-more : (most at : ℕ) (s : List ℕ) → startAnswer s ≡ More → streamFrom most at s ≡ noFrames (rest s)
 stream-more zero at s e = refl
 stream-more (suc most) at s e = ap (λ (a : StartAnswer). outcomeBy a at s (streamFrom most)) e
 
-stream-refused : (most at : ℕ) (s : List ℕ) (r : Refusal) → length s ≤ most → startAnswer s ≡ Refused r → streamFrom most at s ≡ ended (refused (r .0) at)
+stream-refused : (most at : ℕ) (s : List ℕ) (r : Refusal) → length s ≤ most → startAnswer s ≡ Refused r → streamFrom most at s ≡ noFrames (refused (r .0) at)
 stream-refused zero at s r l e = let b = bad-of _ _ _ r e in absurd (omega (arith, b .enough))
 stream-refused (suc most) at s r l e = ap (λ (a : StartAnswer). outcomeBy a at s (streamFrom most)) e
 
@@ -125,7 +125,7 @@ module _ (at : ℕ) (carry : List ℕ) (held : ℕ) (c : List ℕ) (cs : List (L
     ]
 
 -- no chunk is left
-done : (most at : ℕ) (carry : List ℕ) (held : ℕ) → Needing carry held → ended (rest (take held carry)) ≡ streamFrom most at (ahead carry held [])
+done : (most at : ℕ) (carry : List ℕ) (held : ℕ) → Needing carry held → noFrames (rest (take held carry)) ≡ streamFrom most at (ahead carry held [])
 done most at carry held need = rw append-nil (sym (stream-more most at (take held carry) (need .more)))
 
 goes : (fuel : ℕ) → Goes fuel

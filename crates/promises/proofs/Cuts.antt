@@ -7,14 +7,14 @@ use native.Mathlib.Nat.{le-refl}
 use lib.ListN.{length, getD, take, drop, length-drop, take-append-drop}
 use lib.Seq.{getD-take, length-take-le, drop-drop}
 use Rattle.assembly.specs.Start.{startAnswer}
-use Rattle.assembly.specs.Streams.{Outcome, outcomeBy, streamFrom, stream, joined}
+use Rattle.assembly.specs.Streams.{StreamOutcome, outcomeBy, streamFrom, stream, joined}
 use Rattle.assembly.specs.declared.start.StartAnswer.{StartAnswer}
 use Rattle.assembly.specs.declared.start.StartAnswer.the-variants.{Whole, More, Refused}
 use Rattle.assembly.proofs.Sights.{few-more, frame-of}
 use Rattle.promises.specs.Streams.{IsFrame, AllFrames, leftOver, Ends, Cuts}
 
 -- the same of the bytes s that stand at the end of a stream
-record From (all s : List ℕ) (o : Outcome) : Type 0 where
+record From (all s : List ℕ) (o : StreamOutcome) : Type 0 where
   same : joined (o .frames) ++ leftOver (o .end) all ≡ s
   whole : AllFrames (o .frames)
   ends : Ends (o .end) all

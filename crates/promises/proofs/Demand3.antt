@@ -20,8 +20,9 @@ use Rattle.elements.specs.Refusals.{refusal}
 use Rattle.apdu.specs.Control.{numberAt}
 use Rattle.apdu.specs.Reading.{frameAnswer, asduPart}
 use Rattle.apdu.specs.declared.frame.FrameAnswer.{FrameAnswer}
-use Rattle.assembly.specs.Streams.{rest, Outcome, stream}
+use Rattle.assembly.specs.Streams.{rest, StreamOutcome, stream}
 use Rattle.link_state.specs.Limits.{callRefusal}
+use Rattle.link_state.specs.Opening.{opened, openRefusal}
 use Rattle.link_state.specs.declared.Settings.{Settings}
 use Rattle.link_state.specs.declared.Link.{Link}
 use Rattle.link_state.proofs.Sound.{sound-state, passed}
@@ -33,12 +34,12 @@ use Rattle.link.specs.Contracts.{answerOf, calledOf, linkNumber, linkWritten}
 use Rattle.link.specs.declared.answers.LinkAnswer.{LinkAnswer}
 use Rattle.link.specs.declared.answers.LinkAnswer.the-variants as LinkAnswer
 use Rattle.link_meaning.specs.Abstract.{Abstract, Result, fresh, step}
-use Rattle.link_meaning.specs.Meaning.{OctetsIn, waitingOf, timesOf, Same}
+use Rattle.link_meaning.specs.Meaning.{OctetsIn, waitingOf, timesOf, SameOutcome}
 use Rattle.link_meaning.specs.Runs.{Agrees}
 use Rattle.link_meaning.specs.Runs as totals
-use Rattle.link_meaning.proofs.Meaning.{steps-alike}
+use Rattle.link_meaning.proofs.Meaning.{steps-alike, opens-fresh}
 use Rattle.link_meaning.proofs.Runs.{runs-agree}
-use Rattle.promises.specs.Demand3.{Call, outcomeOf, answered, poolAfter, Entry, entryOf, Run, opening, after, cut, iFramesIn, iFrames, allHanded, S, sendTimes, asdusIn, haveLeft, Brought, framed, brings, confirmedBy, R, A, takenBy, taken, Numbered, Claim, Demand3}
+use Rattle.promises.specs.Demand3.{Call, outcomeOf, answered, poolAfter, Entry, entryOf, Run, opening, after, cut, iFramesIn, iFrames, allHanded, S, sendTimes, asdusIn, haveLeft, Brought, framed, brings, confirmedBy, R, A, takenBy, taken, Numbered, Claim, Begun, Demand3}
 use Rattle.promises.proofs.FrameAgain.{Shape, i-shape, s-shape, u-shape, refused-shape, shape}
 use Rattle.promises.proofs.Demand3Pool.{pool-is}
 use Rattle.promises.proofs.Demand3Wire.{AllFit, allOf, each, sentIn, stream-wire, all-fit, asdus-out, numbers-out, fit-append, each-append, kept-append, wire-append}
@@ -46,7 +47,7 @@ use Rattle.promises.proofs.Demand3Steps.{AllPlain, Exact, Stepped, numb
 
 -- ---- what a frame brings
 
-number-low : (f : List ℕ) → Octets f → numberAt 4 f ≤ 32767
+pub number-low : (f : List ℕ) → Octets f → numberAt 4 f ≤ 32767
 number-low f o = let h = le-fits 2 (drop 4 f) (octets-drop 4 f o) in omega arith
 
 frame-low : (f : List ℕ) → Octets f → numberOf (framed (frameAnswer f)) ≤ 32767
@@ -154,10 +155,10 @@ module _ (s : Settings) (e : Entry) (past : List Entry) (a : Abstract) (r : Resu
   streamed = ap stream bytes ∙ stream-wire (r .frames) fit
 
   cut-is : cut (e .handed) ≡ each (r .frames)
-  cut-is = ap (λ (o : Outcome). o .frames) streamed
+  cut-is = ap (λ (o : StreamOutcome). o .frames) streamed
 
   ends : stream (e .handed) .end ≡ rest []
-  ends = ap (λ (o : Outcome). o .end) streamed
+  ends = ap (λ (o : StreamOutcome). o .end) streamed
 
   left-is : asdusIn (iFramesIn (cut (e .handed))) ≡ out
   unfolding out
@@ -280,7 +281,7 @@ module _ (s : Settings) (past : List Entry) (l : Link) (between : List ℕ) (a :
       omega (arith, g .means .held, k-is, ap (λ (x : Settings). x .k) (c .settings))
 
   one-stream : iFramesIn (cut (allHanded past)) ≡ iFrames past
-  one-stream = ap (λ (o : Outcome). iFramesIn (o .frames)) (ap stream (c .bytes) ∙ stream-wire (c .frames) (c .fit)) ∙ sym (c .kept)
+  one-stream = ap (λ (o : StreamOutcome). iFramesIn (o .frames)) (ap stream (c .bytes) ∙ stream-wire (c .frames) (c .fit)) ∙ sym (c .kept)
 
   -- fewer than 32,768 are outstanding, so a number has one total
   narrow : S past - A past < 32768
@@ -315,7 +316,7 @@ module _ (s : Settings) (start : ℕ) (pool : List ℕ) (past : List Entry) (l :
       let w = agrees .within .waiting in
       omega arith
 
-  alike : Same (outcomeOf c l between) result
+  alike : SameOutcome (outcomeOf c l between) result
   alike = steps-alike (c .event) l between (length (c .output)) (c .now) (k .link) (agrees .shaped) o free (agrees .means)
 
   done : Stepped (brings (c .event)) (c .now) (k .link) result
@@ -400,6 +401,10 @@ pub known : (s : Settings) (start : ℕ) (pool : List ℕ) (past : List Entry) (
 known s start pool past l between (opening e) = record { link = fresh s start; run = totals.opening e; counted = counted-none s start }
 known s start pool past l between (after {past = q} {l = m} {between = b} before c o free) = next s start pool q m b (known s start pool q m b before) c o free
 
+begun : (s : Settings) (start : ℕ) (pool : List ℕ) → openRefusal s start ≡ 0 → Begun (opened s start .link) pool
+unfolding fresh
+begun s start pool e = let m = opens-fresh s start pool e in record { none-outstanding = omega (arith, m .held); none-waits = m .waiting }
+
 pub demand-3 : Demand3
-demand-3 s start pool past l between (opening e) = tt
+demand-3 s start pool past l between (opening e) = begun s start pool e
 demand-3 s start pool past l between (after {past = q} {l = m} {between = b} before c o free) = claim s start pool q m b (known s start pool q m b before) c o free

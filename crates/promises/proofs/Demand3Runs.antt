@@ -22,7 +22,7 @@ use Rattle.promises.proofs.Demand3.{number-is, known}
 
 -- ---- what is refused first
 
-data Range (n : ℕ) : Type 0 where
+pub data Range (n : ℕ) : Type 0 where
   none : n ≡ 0 → Range n
   from-19-to-24 : 19 ≤ n → n ≤ 24 → Range n
 
@@ -30,7 +30,7 @@ by-test : (b : Bool) {x y : ℕ} → Range x → Range y → Range (pick b x y)
 by-test true p q = p
 by-test false p q = q
 
-first-range : (l : Link) (output pool now : ℕ) → Range (callRefusal l output pool now)
+pub first-range : (l : Link) (output pool now : ℕ) → Range (callRefusal l output pool now)
 unfolding callRefusal
 first-range l output pool now =
     by-test (soundLink l)

@@ -10,7 +10,7 @@ use Rattle.laws.specs.Choice.{_then_}
 use Rattle.laws.specs.Lists.{Octets, every}
 use Rattle.laws.specs.Numbers.{leOf, leOctets}
 use Rattle.objects.specs.Objects.{objectOf, objectAnswer}
-use Rattle.asdu.specs.Header.{causeListed, stepOf, needed, headerIn, layoutRefusal, startRefusal, headerRefusal, headerAnswer}
+use Rattle.asdu.specs.Header.{causeListed, stepOf, needed, headerIn, layoutRefusal, earlyRefusal, headerRefusal, headerAnswer}
 use Rattle.asdu.specs.Reading.{objectIn, answerAt, firstOf, objectsRefusal, readRefusal}
 use Rattle.asdu.specs.Plain.{plainElement, plainObjects, plainAnswer}
 use Rattle.asdu.specs.declared.PlainAnswer.the-variants as PlainAnswer
@@ -67,11 +67,11 @@ last =
     (at 50 (frame (sWith 0x06) false))
 
 pub first-plain : plainAnswer first ≡ PlainAnswer.Plain
-unfolding _then_ leOf objectOf objectAnswer every causeListed stepOf needed headerIn layoutRefusal startRefusal headerRefusal headerAnswer objectIn answerAt firstOf objectsRefusal readRefusal plainElement plainObjects plainAnswer
+unfolding _then_ leOf objectOf objectAnswer every causeListed stepOf needed headerIn layoutRefusal earlyRefusal headerRefusal headerAnswer objectIn answerAt firstOf objectsRefusal readRefusal plainElement plainObjects plainAnswer
 first-plain = refl
 
 pub shows : Shown
-unfolding _then_ every leOf leOctets objectOf objectAnswer causeListed stepOf needed headerIn layoutRefusal startRefusal headerRefusal headerAnswer objectIn answerAt firstOf objectsRefusal readRefusal plainElement plainObjects plainAnswer outerRefusal shortAnswer longAnswer frameAnswer asduPart iOctets starts.startRefusal sight stream confirms numbersInLimits ackRefusal acknowledged soundSettings soundCounts soundLength soundLengths soundTimeAt soundTimes soundTimers soundLink callRefusal freshLink openRefusal opened octetsOf wire windowOpen windowFull freedOf sentOf handOut firstWaiting shifted queued letOut flushed room sendWaiting due ending shut closing accepting release sFreeing onS received iFreeing onI onAnswer onFrame sendPlain sendBy onSend eventOutcome called answerOf calledOf
+unfolding _then_ every leOf leOctets objectOf objectAnswer causeListed stepOf needed headerIn layoutRefusal earlyRefusal headerRefusal headerAnswer objectIn answerAt firstOf objectsRefusal readRefusal plainElement plainObjects plainAnswer outerRefusal shortAnswer longAnswer frameAnswer asduPart iOctets starts.startRefusal sight stream confirms numbersInLimits ackRefusal acknowledged soundSettings soundCounts soundLength soundLengths soundTimeAt soundTimes soundTimers soundLink callRefusal freshLink openRefusal opened octetsOf wire windowOpen windowFull freedOf sentOf handOut firstWaiting shifted queued letOut flushed room sendWaiting due ending shut closing accepting release sFreeing onS received iFreeing onI onAnswer onFrame sendPlain sendBy onSend eventOutcome called answerOf calledOf
 shows =
     record {
       link = last .link;

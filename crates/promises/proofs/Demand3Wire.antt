@@ -19,7 +19,7 @@ use Rattle.apdu.specs.declared.frame.FrameAnswer.{FrameAnswer}
 use Rattle.apdu.specs.declared.frame.FrameAnswer.the-variants as FrameAnswer
 use Rattle.apdu.proofs.Answers.{i-long}
 use Rattle.assembly.specs.Start.{startRefusal, sight, startAnswer}
-use Rattle.assembly.specs.Streams.{rest, Outcome, handed, outcomeBy, streamFrom, stream}
+use Rattle.assembly.specs.Streams.{rest, StreamOutcome, handed, outcomeBy, streamFrom, stream}
 use Rattle.assembly.specs.declared.start.StartAnswer.{StartAnswer}
 use Rattle.assembly.specs.declared.start.StartAnswer.the-variants.{Whole}
 use Rattle.assembly.proofs.Sights.{enough-whole, longer-whole}
@@ -98,7 +98,7 @@ some-octets (iFrame s r x) h = omega (arith, i-long s r x)
 some-octets (sFrame r) h = let e = s-six r in omega arith
 some-octets (uFrame u) h = let e = u-six u in omega arith
 
-abbrev pub allOf : List Frame → Outcome
+abbrev pub allOf : List Frame → StreamOutcome
 allOf fs = record { frames = each fs; end = rest [] }
 
 cuts-wire : (fs : List Frame) → AllFit fs → (most at : ℕ) → length (wire fs) ≤ most → streamFrom most at (wire fs) ≡ allOf fs

@@ -135,14 +135,14 @@ module _ (f : List ℕ) (o : Octets f) (out : Outer f) where
   front : (l x y : ℕ) → getD f 1 0 ≡ l → x ≡ leOf 2 (drop 2 f) → startOctets l x y ≡ take 4 f ++ leOctets 2 y
   front l x y p q = rw (q, two 2 (omega (arith, out .six))) (first-four f (leOctets 2 y) (out .six) (out .start) p)
 
-  all-six : (l x y : ℕ) → getD f 1 0 ≡ l → x ≡ leOf 2 (drop 2 f) → y ≡ leOf 2 (drop 4 f) → startOctets l x y ≡ take 6 f
+  pub all-six : (l x y : ℕ) → getD f 1 0 ≡ l → x ≡ leOf 2 (drop 2 f) → y ≡ leOf 2 (drop 4 f) → startOctets l x y ≡ take 6 f
   all-six l x y p q r = front l x y p q ∙ rw (r, two 4 (out .six)) (sym (take-add 4 2 f))
 
   -- two octets whose bit 0 is clear
   even : (i : ℕ) → getD f i 0 % 2 ≡ 0 → numberAt i f * 2 ≡ leOf 2 (drop i f)
   even i h = omega (arith, Numbers.le-step 1 f i)
 
-  number-accepted : (i : ℕ) → numberRefusal (numberAt i f) ≡ 0
+  pub number-accepted : (i : ℕ) → numberRefusal (numberAt i f) ≡ 0
   unfolding numberRefusal
   number-accepted i = rw (le-ltb 32767 (numberAt i f) (omega (arith, Numbers.le-fits 2 (drop i f) (octets-drop i f o))))
 
@@ -150,7 +150,7 @@ module _ (f : List ℕ) (o : Octets f) (out : Outer f) where
   no-more : getD f 1 0 ≡ 4 → length f ≡ 6
   no-more e = omega (arith, out .long)
 
-  only-six : getD f 1 0 ≡ 4 → take 6 f ≡ f
+  pub only-six : getD f 1 0 ≡ 4 → take 6 f ≡ f
   only-six e = take-all 6 f (le-of-eq (no-more e))
 
 -- ---- each kind of frame

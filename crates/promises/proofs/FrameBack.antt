@@ -166,7 +166,7 @@ module _ (u : UFrame) where
     «test_con» = (one 6 ∙ num-flag (u .«test_con»)) j;
   }
 
-  u-back : frameAnswer (uOctets u) ≡ U u
+  pub u-back : frameAnswer (uOctets u) ≡ U u
   unfolding uOctets bits
   u-back = u-reads (uOctet u) u-small (bit 0) ∙ ap U flags
 

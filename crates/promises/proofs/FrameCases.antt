@@ -8,7 +8,7 @@ use Rattle.laws.specs.Lists.{tabulate, padded}
 use Rattle.laws.specs.Numbers.{leOf}
 use Rattle.objects.specs.Elements.{elementOf}
 use Rattle.objects.specs.Objects.{objectOf, objectAnswer}
-use Rattle.asdu.specs.Header.{causeListed, stepOf, needed, headerIn, layoutRefusal, startRefusal, headerRefusal, headerAnswer}
+use Rattle.asdu.specs.Header.{causeListed, stepOf, needed, headerIn, layoutRefusal, earlyRefusal, headerRefusal, headerAnswer}
 use Rattle.asdu.specs.Reading.{objectIn, answerAt, firstOf, objectsRefusal, readRefusal, readBody, readAsdu}
 use Rattle.asdu.specs.Plain.{plainAnswer}
 use Rattle.apdu.specs.Reading.{outerRefusal, shortAnswer, longAnswer, frameAnswer, asduPart}
@@ -26,7 +26,7 @@ only-none r h some =
     rw (le-leb r 32767 h, e, lt-leb r 0 (omega arith))
 
 pub cases : MarkedCases
-unfolding marked _then_ tabulate padded leOf elementOf objectOf objectAnswer causeListed stepOf needed headerIn layoutRefusal startRefusal headerRefusal headerAnswer objectIn answerAt firstOf objectsRefusal readRefusal readBody readAsdu plainAnswer outerRefusal shortAnswer longAnswer frameAnswer asduPart plainFrame acknowledged ackRefusal numbersInLimits confirms
+unfolding marked _then_ tabulate padded leOf elementOf objectOf objectAnswer causeListed stepOf needed headerIn layoutRefusal earlyRefusal headerRefusal headerAnswer objectIn answerAt firstOf objectsRefusal readRefusal readBody readAsdu plainAnswer outerRefusal shortAnswer longAnswer frameAnswer asduPart plainFrame acknowledged ackRefusal numbersInLimits confirms
 cases = (
   refl,
   (

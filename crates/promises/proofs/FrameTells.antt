@@ -3,6 +3,7 @@ use Prim.Native.Nat.{ℕ, _*_, _%_}
 use mathlib.Core.Path.{_≡_, refl, sym, ap, _∙_}
 use mathlib.Core.Bool.{Bool, true, false}
 use mathlib.Core.List.{List, _++_}
+use mathlib.Core.Logic.{_↔_}
 use native.Mathlib.Omega.{arith}
 use native.Mathlib.Nat.{le-refl}
 use borrow.Author.Tests.{eqb-true, eqb-false}
@@ -33,11 +34,10 @@ differ e = let z : _≡_ {A = ℕ} 0 1 = cc in omega arith
 module _ (f : List ℕ) (o : Octets f) where
   -- an answer told by what its own test tells
   told-by : {a : FrameAnswer} → frameAnswer f ≡ a
-      → (plainFrameBy a f ≡ PlainAnswer.Plain → (frameNumber a ≡ 0) × (rewritten a f ≡ f))
-      → (frameNumber a ≡ 0 → rewritten a f ≡ f → plainFrameBy a f ≡ PlainAnswer.Plain)
-      → (plainFrameBy a f ≡ PlainAnswer.Reserved → (frameNumber a ≡ 0) × (rewritten a f ≡ f → ⊥)) → FrameTold f
+      → (plainFrameBy a f ≡ PlainAnswer.Plain) ↔ ((frameNumber a ≡ 0) × (rewritten a f ≡ f))
+      → (plainFrameBy a f ≡ PlainAnswer.Reserved) ↔ ((frameNumber a ≡ 0) × (rewritten a f ≡ f → ⊥)) → FrameTold f
   unfolding plainFrame
-  told-by e y n r = record { yes = rw e y; no = rw e n; else = rw e r }
+  told-by e y d = record { plain = rw e y; differs = rw e d; refused = λ r g. rw g }
 
   -- I: the six octets are the same, so it is the ASDU's answer
   i-told : ITaken f → frameAnswer f ≡ I (sendNumber (numberAt 2 f)) (receiveNumber (numberAt 4 f)) → FrameTold f
@@ -49,7 +49,9 @@ module _ (f : List ℕ) (o : Octets f) where
       let there : asdu ≡ drop 6 f → iOctets (numberAt 2 f) (numberAt 4 f) asdu ≡ f = λ g. is ∙ (ap (λ (x : List ℕ). take 6 f ++ x) g ∙ take-append-drop 6 f) in
       let back : iOctets (numberAt 2 f) (numberAt 4 f) asdu ≡ f → asdu ≡ drop 6 f =
       λ g. sym (drop-at (take 6 f) _ 6 (length-take 6 f ∙ omega (arith, c .outside .six))) ∙ ap (drop 6) (sym is ∙ g) in
-      told-by e (λ p. (refl, there (t .yes p .1))) (λ z g. t .no (c .reads) (back g)) (λ p. (refl, λ g. t .else p .1 (back g)))
+      told-by e
+      ((λ p. (refl, there (t .plain .0 p .1))), (λ x. t .plain .1 (c .reads, back (x .1))))
+      ((λ p. (refl, λ g. t .differs .0 p .1 (back g))), (λ x. t .differs .1 (c .reads, λ g. x .1 (there g))))
 
   -- S: bit 0 of octet 4 is written as 0
   s-clear : sOctets (numberAt 4 f) ≡ f → getD f 4 0 % 2 ≡ 0
@@ -67,11 +69,12 @@ module _ (f : List ℕ) (o : Octets f) where
       by : (t : Bool) → eqb (getD f 4 0 % 2) 0 ≡ t → FrameTold f
       by true p =
           let is : plainFrameBy (S (receiveNumber (numberAt 4 f))) f ≡ PlainAnswer.Plain = rw p in
-          told-by e (λ g. (refl, s-same f o c (eqb-true _ _ p))) (λ z g. is) (λ g. absurd (differ (sym is ∙ g)))
+          let same = s-same f o c (eqb-true _ _ p) in
+          told-by e ((λ g. (refl, same)), (λ x. is)) ((λ g. absurd (differ (sym is ∙ g))), (λ x. absurd (x .1 same)))
       by false p =
           let is : plainFrameBy (S (receiveNumber (numberAt 4 f))) f ≡ PlainAnswer.Reserved = rw p in
           let differs : sOctets (numberAt 4 f) ≡ f → ⊥ = λ g. eqb-false _ _ p (s-clear g) in
-          told-by e (λ g. absurd (differ (sym g ∙ is))) (λ z g. absurd (differs g)) (λ g. (refl, differs))
+          told-by e ((λ g. absurd (differ (sym g ∙ is))), (λ x. absurd (differs (x .1)))) ((λ g. (refl, differs)), (λ x. is))
 
 -- A call tells exactly whether a frame differs.
 pub frame-tells : (f : List ℕ) → Octets f → FrameTold f
@@ -80,9 +83,10 @@ frame-tells f o = by (shape f)
     by : Shape f → FrameTold f
     by (i-shape c e) = i-told f o c e
     by (s-shape c e) = s-told f o c e
-    by (u-shape c e) = told-by f o e (λ g. (refl, u-same f o c)) (λ z g. refl) (λ g. absurd (differ g))
+    by (u-shape c e) =
+        let same = u-same f o c in
+        told-by f o e ((λ g. (refl, same)), (λ x. refl)) ((λ g. absurd (differ g)), (λ x. absurd (x .1 same)))
     by (refused-shape r n e) =
         told-by f o e
-        (λ g. let z : _≡_ {A = ℕ} 0 1 = cc in absurd (omega arith))
-        (λ z g. absurd (n z))
-        (λ g. let z : _≡_ {A = ℕ} 0 1 = cc in absurd (omega arith))
+        ((λ g. let z : _≡_ {A = ℕ} 0 1 = cc in absurd (omega arith)), (λ x. absurd (n (x .0))))
+        ((λ g. let z : _≡_ {A = ℕ} 0 1 = cc in absurd (omega arith)), (λ x. absurd (n (x .0))))

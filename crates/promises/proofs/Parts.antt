@@ -7,7 +7,7 @@ use native.Mathlib.Decide.{decLt}
 use borrow.Author.Tests.{lt-ltb}
 use lib.ListN.{length, take}
 use Rattle.assembly.specs.Start.{startAnswer}
-use Rattle.assembly.specs.Picking.{partBy, pickAnswer, pickPart}
+use Rattle.assembly.specs.Picking.{pickPartBy, pickAnswer, pickPart}
 use Rattle.assembly.specs.Topping.{onHand}
 use Rattle.assembly.specs.Stepping.{stepMoved, stepCarry}
 use Rattle.assembly.specs.declared.start.StartAnswer.the-variants.{Whole}
@@ -18,9 +18,9 @@ use Rattle.assembly.proofs.Sights.{frame-of, first-whole, start-short}
 use Rattle.assembly.proofs.Steps.{held-long, pick-by, step-chunk, step-carry, carry-long, holds-frame}
 use Rattle.promises.specs.Streams.{HandsBack}
 
-part-of : (carry : List ℕ) (held : ℕ) (chunk : List ℕ) (a : PickAnswer) → pickAnswer carry held chunk ≡ a → pickPart carry held chunk ≡ partBy a carry chunk
+part-of : (carry : List ℕ) (held : ℕ) (chunk : List ℕ) (a : PickAnswer) → pickAnswer carry held chunk ≡ a → pickPart carry held chunk ≡ pickPartBy a carry chunk
 unfolding pickPart
-part-of carry held chunk a e = ap (λ (p : PickAnswer). partBy p carry chunk) e
+part-of carry held chunk a e = ap (λ (p : PickAnswer). pickPartBy p carry chunk) e
 
 pub hands-back : HandsBack
 hands-back carry held chunk n room count more e = elim (decLt 0 held) [

@@ -29,7 +29,7 @@ use Rattle.asdu.specs.declared.Answer.{Answer}
 use Rattle.asdu.specs.declared.header.Header.{Header}
 use Rattle.asdu.specs.declared.header.HeaderAnswer.{HeaderAnswer}
 use Rattle.asdu.proofs.Lengths.{fits, body-long, address-long, needed-parts, needed-next, Writable, writable, own-long, asdu-long}
-use Rattle.promises.specs.Asdus.{TypedObjects, TypedAsdu, Back, ReadBack, ReadsBack}
+use Rattle.promises.specs.Asdus.{TypedObjects, TypedAsdu, Back, ReadBack, AsduReadsBack}
 use Rattle.promises.proofs.Bodies.{headOctets, long-head, Fields, header-passes, after-head, read-passes, read-is, own-back, past-blank}
 
 -- ---- objects come back
@@ -176,5 +176,5 @@ module _ (k : Kind) (a : Asdu) (room : ℕ) (w : Writable k a room) (t : TypedAs
       }
 
 -- What the writer accepts reads back as the same record.
-pub reads-back : ReadsBack
+pub reads-back : AsduReadsBack
 reads-back a room t h = let (k, w) = writable a room h in read-back k a room w t

@@ -125,29 +125,31 @@ module _ (s : List ℕ) (o : Octets s) where
   by-test true p r =
       let (k, c) = accepted s r in
       let is : plainAnswer s ≡ PlainAnswer.Plain = rw (r, p) in
+      let same = same-if k s o c p in
       record {
-        yes = λ a. (r, same-if k s o c p);
-        no = λ r e. is;
-        else = λ a. let z : _≡_ {A = ℕ} 0 1 = cc in absurd (omega arith);
+        plain = ((λ a. (r, same)), (λ x. is));
+        differs = ((λ a. let z : _≡_ {A = ℕ} 0 1 = cc in absurd (omega arith)), (λ x. absurd (x .1 same)));
+        refused = λ n. absurd (n r);
       }
   by-test false p r =
       let (k, c) = accepted s r in
       let is : plainAnswer s ≡ PlainAnswer.Reserved = rw (r, p) in
       let differs : asduOctets (readAsdu s .asdu) ≡ s → ⊥ = λ e. let g = only-if k s o c e in let z : _≡_ {A = ℕ} 0 1 = cc in omega arith in
       record {
-        yes = λ a. let z : _≡_ {A = ℕ} 0 1 = cc in absurd (omega arith);
-        no = λ r e. absurd (differs e);
-        else = λ a. (r, differs);
+        plain = ((λ a. let z : _≡_ {A = ℕ} 0 1 = cc in absurd (omega arith)), (λ x. absurd (differs (x .1))));
+        differs = ((λ a. (r, differs)), (λ x. is));
+        refused = λ n. absurd (n r);
       }
 
   refused : eqb (readRefusal s) 0 ≡ false → Told s
   unfolding plainAnswer
   refused h =
       let is : plainAnswer s ≡ PlainAnswer.Refused (refusal (readRefusal s)) = rw h in
+      let not = eqb-false (readRefusal s) 0 h in
       record {
-        yes = λ a. let z : _≡_ {A = ℕ} 0 1 = cc in absurd (omega arith);
-        no = λ r e. absurd (eqb-false (readRefusal s) 0 h r);
-        else = λ a. let z : _≡_ {A = ℕ} 0 1 = cc in absurd (omega arith);
+        plain = ((λ a. let z : _≡_ {A = ℕ} 0 1 = cc in absurd (omega arith)), (λ x. absurd (not (x .0))));
+        differs = ((λ a. let z : _≡_ {A = ℕ} 0 1 = cc in absurd (omega arith)), (λ x. absurd (not (x .0))));
+        refused = λ n. is;
       }
 
 -- A call tells exactly whether it differs.

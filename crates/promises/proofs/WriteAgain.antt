@@ -26,11 +26,11 @@ use Rattle.objects.proofs.Elements.{element-level, kept-wholes}
 use Rattle.asdu.specs.Header.{causeListed, stepOf, needed, sequenceIn, countIn, headerIn, headerAnswer}
 use Rattle.asdu.specs.Records.{filled, asduOf}
 use Rattle.asdu.specs.Reading.{objectIn, objectsIn, readAsdu}
-use Rattle.asdu.specs.Writing.{ownObjects, firstAddress, firstRefusal, shapeRefusal, roomRefusal, writeRefusalBy, writeRefusal, headerOctets, bodyOctets, objectsOctets, addressOctets, asduOctets}
+use Rattle.asdu.specs.Writing.{ownObjects, firstAddress, firstRefusal, shapeRefusal, sizeRefusal, writeRefusalBy, writeRefusal, headerOctets, bodyOctets, objectsOctets, addressOctets, asduOctets}
 use Rattle.asdu.specs.declared.Asdu.{Asdu}
 use Rattle.asdu.specs.declared.ReadAsdu.{ReadAsdu}
 use Rattle.asdu.proofs.Lengths.{some-passes, needed-parts, needed-next}
-use Rattle.promises.specs.Asdus.{times, bodyForm, asduForm, WrittenAgain, WritesAgain}
+use Rattle.promises.specs.Asdus.{times, bodyForm, asduForm, WrittenAgain, AsduWritesAgain}
 use Rattle.promises.proofs.Bodies.{head-read, Accepted, accepted, header-taken, rising, read-is, own-back}
 
 -- ---- what forms keep
@@ -173,7 +173,7 @@ first-filled f (suc n) h = refl
 record-accepted : (a : Asdu) (k : Kind) (room : ℕ) → causeListed (a .cause) ≡ true → kindOf (a .«type_id») ≡ Carried k → a .count ≤ 127
     → (a .sequence ≡ true → (1 ≤ a .count) × (1 ≤ sizeOf k)) → firstRefusal k (a .sequence) (firstAddress a) 0 (ownObjects a) ≡ 0
     → needed k (a .sequence) (a .count) ≤ 249 → needed k (a .sequence) (a .count) ≤ room → writeRefusal a room ≡ 0
-unfolding writeRefusal writeRefusalBy shapeRefusal roomRefusal _then_
+unfolding writeRefusal writeRefusalBy shapeRefusal sizeRefusal _then_
 record-accepted a k room c e n q f l r =
     let long = needed k (a .sequence) (a .count) in
     rw (c, e, le-ltb 127 (a .count) n, some-passes (a .sequence) (a .count) (sizeOf k) q, f, le-ltb 249 long l, le-ltb room long r)
@@ -282,5 +282,5 @@ module _ (k : Kind) (s : List ℕ) (o : Octets s) (c : Accepted k s) where
   }
 
 -- What the reader accepts and we write again differs only in the reserved bits.
-pub writes-again : WritesAgain
+pub writes-again : AsduWritesAgain
 writes-again s room o none h = let (k, c) = accepted s none in again k s o c room h

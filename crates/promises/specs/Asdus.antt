@@ -3,13 +3,18 @@ use Prim.Native.Nat.{ℕ, zero, suc, _+_, _<_, _≤_}
 use mathlib.Core.Path.{_≡_}
 use mathlib.Core.Bool.{Bool, true, false}
 use mathlib.Core.List.{List, [], _∷_, _++_}
+use mathlib.Core.Logic.{_↔_}
 use lib.ListN.{length, drop, replicate}
 use Rattle.laws.specs.Bits.{Layout, whole, num, octet}
 use Rattle.laws.specs.Lists.{Octets}
 use Rattle.laws.specs.Numbers.{leOf, leOctets}
-use Rattle.objects.specs.Kinds.{typeOf, sizeOf, formOf}
+use Rattle.elements.specs.Refusals.{refusal}
+use Rattle.objects.specs.Kinds.{typeOf, kindOf, kindNumber, sizeOf, formOf}
+use Rattle.objects.specs.Objects.{objectAnswer, objectNumber, objectGiven}
 use Rattle.objects.specs.Promises.{Typed, keptBy}
 use Rattle.objects.specs.declared.kinds.Kind.{Kind}
+use Rattle.objects.specs.declared.kinds.KindAnswer.the-variants.{Carried}
+use Rattle.objects.specs.declared.values.Value.{Value}
 use Rattle.objects.specs.declared.Object.{Object}
 use Rattle.asdu.specs.Header.{countLayout, causeLayout, causeListed, needed, headerAnswer}
 use Rattle.asdu.specs.Records.{answerNumber, blanks}
@@ -59,8 +64,8 @@ pub record ReadBack (a : Asdu) : Type 0 where
   pub answered : answerNumber (readAsdu (asduOctets a) .answer) ≡ 0
   pub back : Back a (readAsdu (asduOctets a) .asdu)
 
-abbrev pub ReadsBack : Type 0
-ReadsBack = (a : Asdu) (room : ℕ) → TypedAsdu a → writeRefusal a room ≡ 0 → ReadBack a
+abbrev pub AsduReadsBack : Type 0
+AsduReadsBack = (a : Asdu) (room : ℕ) → TypedAsdu a → writeRefusal a room ≡ 0 → ReadBack a
 
 -- ---- writes again
 
@@ -84,16 +89,17 @@ pub record WrittenAgain (s : List ℕ) (room : ℕ) : Type 0 where
   pub long : length (asduOctets (readAsdu s .asdu)) ≡ length s
   pub kept : asduOctets (readAsdu s .asdu) ≡ keptBy (asduForm (headerAnswer s)) s
 
-abbrev pub WritesAgain : Type 0
-WritesAgain = (s : List ℕ) (room : ℕ) → Octets s → readRefusal s ≡ 0 → length s ≤ room → WrittenAgain s room
+abbrev pub AsduWritesAgain : Type 0
+AsduWritesAgain = (s : List ℕ) (room : ℕ) → Octets s → readRefusal s ≡ 0 → length s ≤ room → WrittenAgain s room
 
 -- ---- tells
 
--- "a call tells exactly whether it differs": plain exactly if it reads and writing its reading gives the same octets.
+-- "a call tells exactly whether it differs": plain exactly if it reads and writing its reading gives the same octets, reserved
+-- exactly if it reads and the octets differ; "one that does not read gets the reading's refusal"
 pub record Told (s : List ℕ) : Type 0 where
-  pub yes : plainAnswer s ≡ PlainAnswer.Plain → (readRefusal s ≡ 0) × (asduOctets (readAsdu s .asdu) ≡ s)
-  pub no : readRefusal s ≡ 0 → asduOctets (readAsdu s .asdu) ≡ s → plainAnswer s ≡ PlainAnswer.Plain
-  pub else : plainAnswer s ≡ PlainAnswer.Reserved → (readRefusal s ≡ 0) × (asduOctets (readAsdu s .asdu) ≡ s → ⊥)
+  pub plain : (plainAnswer s ≡ PlainAnswer.Plain) ↔ ((readRefusal s ≡ 0) × (asduOctets (readAsdu s .asdu) ≡ s))
+  pub differs : (plainAnswer s ≡ PlainAnswer.Reserved) ↔ ((readRefusal s ≡ 0) × (asduOctets (readAsdu s .asdu) ≡ s → ⊥))
+  pub refused : (readRefusal s ≡ 0 → ⊥) → plainAnswer s ≡ PlainAnswer.Refused (refusal (readRefusal s))
 
 abbrev pub Tells : Type 0
 Tells = (s : List ℕ) → Octets s → Told s
@@ -133,7 +139,13 @@ pub record Accepts (s : List ℕ) : Type 0 where
 -- ---- answers
 
 -- the number that each call answers is the refusal that the other promises speak of; a refused ASDU gets the reading's
-pub record Answers : Type 0 where
+pub record AnswerNumbers : Type 0 where
+  -- 11: the carried types, and only they, have a kind
+  pub carried : (k : Kind) → kindOf (typeOf k) ≡ Carried k
+  pub not-carried : (t : ℕ) → (kindNumber (kindOf t) ≡ 0) ↔ ((k : Kind) × (t ≡ typeOf k))
+  -- 14 of an object that is read: its address is above 16,777,215; else the object is the one at this address
+  pub addressed : (a : ℕ) (v : Value) → (objectNumber (objectAnswer a v) ≡ 0) ↔ (a ≤ 16777215)
+  pub given : (a : ℕ) (v : Value) → a ≤ 16777215 → objectGiven (objectAnswer a v) ≡ record { address = a; value = v }
   pub reading : (s : List ℕ) → answerNumber (readAsdu s .answer) ≡ readRefusal s
   pub telling : (s : List ℕ) → plainNumber (plainAnswer s) ≡ readRefusal s
   pub writing : (a : Asdu) (room : ℕ) → writeNumber (writeAnswer a room) ≡ writeRefusal a room
@@ -142,8 +154,8 @@ pub record Answers : Type 0 where
 -- ---- all of it
 
 pub record AsduLevel : Type 0 where
-  pub back : ReadsBack
-  pub again : WritesAgain
+  pub back : AsduReadsBack
+  pub again : AsduWritesAgain
   pub tells : Tells
   pub accepts : (s : List ℕ) → Accepts s
-  pub answers : Answers
+  pub answers : AnswerNumbers

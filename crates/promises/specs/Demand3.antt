@@ -34,9 +34,9 @@ pub record Call : Type 0 where
   pub output : List ℕ
   pub now : ℕ
 
--- What the link's functions (`link_receive::receive`, `link_send::send`, `link_time::stop`, `test` and `tick`) answer and leave behind. These are the right sides of
--- their contracts: `r ≡ calledOf (called ..)`, `now (out .exit) ≡ sets (now (out .entry)) 0 (wire (called .. .frames))`, and
--- of send `now (pool .exit) ≡ called .. .pool`. The others only read the pool.
+-- What the link's functions (`link_receive::receive`, `link_send::send`, `link_time::stop`, `test` and `tick`) answer and leave
+-- behind. These are the right sides of their contracts: `r ≡ calledOf (called ..)`, `now (out .exit) ≡ sets (now (out .entry)) 0
+-- (wire (called .. .frames))`, and of send `now (pool .exit) ≡ called .. .pool`. The others only read the pool.
 abbrev pub outcomeOf : Call → Link → List ℕ → Outcome
 outcomeOf c l pool = called (c .event) l pool (length (c .output)) (c .now)
 
@@ -238,9 +238,14 @@ pub record Claim (s : Settings) (e : Entry) (past : List Entry) (l : Link) (pool
   -- "which they do only with k outstanding"
   pub only-full : 0 < length (waitingOf (l .state .queue) pool) → l .state .window .held ≡ s .k
 
--- after each call of each run: a run has any earlier moment as a run of its own
+-- after opening: nothing is outstanding and nothing waits
+pub record Begun (l : Link) (pool : List ℕ) : Type 0 where
+  pub none-outstanding : l .state .window .held ≡ 0
+  pub none-waits : waitingOf (l .state .queue) pool ≡ []
+
+-- after opening and after each call of each run: a run has any earlier moment as a run of its own
 abbrev pub Claimed : Settings → List Entry → Link → List ℕ → Type 0
-Claimed s [] l pool = Unit {0}
+Claimed s [] l pool = Begun l pool
 Claimed s (e ∷ past) l pool = Claim s e past l pool
 
 abbrev pub Demand3 : Type 0

@@ -1,19 +1,21 @@
 -- Demand 2 for frames. The sentences are the letter's; docs/PROMISES.md has them side by side with these statements.
-use Prim.Native.Nat.{ℕ, _≤_}
+use Prim.Native.Nat.{ℕ, _+_, _*_, _≤_}
 use mathlib.Core.Path.{_≡_}
 use mathlib.Core.List.{List, [], _∷_, _++_}
+use mathlib.Core.Logic.{_↔_}
 use lib.ListN.{length, drop, replicate}
 use Rattle.laws.specs.Bits.{Layout, _at_, whole}
 use Rattle.laws.specs.Lists.{Octets}
+use Rattle.elements.specs.declared.refusals.Refusal.{Refusal}
 use Rattle.objects.specs.Promises.{keptBy}
 use Rattle.asdu.specs.Header.{headerAnswer}
-use Rattle.asdu.specs.Reading.{readAsdu}
+use Rattle.asdu.specs.Reading.{readRefusal, readAsdu}
 use Rattle.asdu.specs.Writing.{asduOctets}
 use Rattle.asdu.specs.declared.Asdu.{Asdu}
 use Rattle.asdu.specs.declared.PlainAnswer.the-variants as PlainAnswer
 use Rattle.apdu.specs.Control.{sendNumber, receiveNumber}
 use Rattle.apdu.specs.Reading.{frameAnswer, frameNumber, asduPart}
-use Rattle.apdu.specs.Writing.{iOctets, sOctets, uOctets, iRefusal, sRefusal, roomRefusal}
+use Rattle.apdu.specs.Writing.{startOctets, iOctets, sOctets, uOctets, iRefusal, sRefusal, roomRefusal}
 use Rattle.apdu.specs.Plain.{plainFrame}
 use Rattle.apdu.specs.declared.frame.UFrame.{UFrame}
 use Rattle.apdu.specs.declared.frame.FrameAnswer.{FrameAnswer}
@@ -66,10 +68,32 @@ FrameWritesAgain = (f : List ℕ) (room : ℕ) → Octets f → frameNumber (fra
 
 -- ---- tells
 
+-- "a call tells exactly whether it differs"; "one that does not read gets the reading's refusal"
 pub record FrameTold (f : List ℕ) : Type 0 where
-  pub yes : plainFrame f ≡ PlainAnswer.Plain → (frameNumber (frameAnswer f) ≡ 0) × (rewritten (frameAnswer f) f ≡ f)
-  pub no : frameNumber (frameAnswer f) ≡ 0 → rewritten (frameAnswer f) f ≡ f → plainFrame f ≡ PlainAnswer.Plain
-  pub else : plainFrame f ≡ PlainAnswer.Reserved → (frameNumber (frameAnswer f) ≡ 0) × (rewritten (frameAnswer f) f ≡ f → ⊥)
+  pub plain : (plainFrame f ≡ PlainAnswer.Plain) ↔ ((frameNumber (frameAnswer f) ≡ 0) × (rewritten (frameAnswer f) f ≡ f))
+  pub differs : (plainFrame f ≡ PlainAnswer.Reserved) ↔ ((frameNumber (frameAnswer f) ≡ 0) × (rewritten (frameAnswer f) f ≡ f → ⊥))
+  pub refused : (r : Refusal) → frameAnswer f ≡ Refused r → plainFrame f ≡ PlainAnswer.Refused r
+
+-- ---- accepts exactly the layout
+
+-- a frame laid out by the standard: 68 hex, L, the control octets. I: two numbers of 15 bits, and an ASDU that reads. S: its third
+-- control octet may have the reserved bit. U: any flags, none or several too.
+pub data LaidFrame (f : List ℕ) : Type 0 where
+  i-laid : (s r : ℕ) (asdu : List ℕ) → s ≤ 32767 → r ≤ 32767 → readRefusal asdu ≡ 0 → f ≡ iOctets s r asdu → LaidFrame f
+  s-laid : (r bit : ℕ) → r ≤ 32767 → bit ≤ 1 → f ≡ startOctets 4 1 (r * 2 + bit) → LaidFrame f
+  u-laid : (u : UFrame) → f ≡ uOctets u → LaidFrame f
+
+-- what such a frame must read as
+abbrev pub laidAnswer : {f : List ℕ} → LaidFrame f → FrameAnswer
+laidAnswer (i-laid s r asdu p q h e) = I (sendNumber s) (receiveNumber r)
+laidAnswer (s-laid r bit p q e) = S (receiveNumber r)
+laidAnswer (u-laid u e) = U u
+
+-- every such frame reads, and as what it was laid out from: a reader that always refuses, or always answers one frame, fails;
+-- and nothing else reads
+pub record FrameAccepts (f : List ℕ) : Type 0 where
+  pub takes : (l : LaidFrame f) → frameAnswer f ≡ laidAnswer l
+  pub only : Octets f → frameNumber (frameAnswer f) ≡ 0 → LaidFrame f
 
 -- ---- all of it
 
@@ -77,3 +101,4 @@ pub record FrameLevel : Type 0 where
   pub back : FrameReadsBack
   pub again : FrameWritesAgain
   pub tells : (f : List ℕ) → Octets f → FrameTold f
+  pub accepts : (f : List ℕ) → FrameAccepts f

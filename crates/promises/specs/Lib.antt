@@ -3,5 +3,7 @@ pub mod Frames
 pub mod Cases
 pub mod Streams
 pub mod Settled
+pub mod Acknowledged
 pub mod Demand3
 pub mod Demand3Runs
+pub mod Demand1

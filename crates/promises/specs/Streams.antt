@@ -7,7 +7,7 @@ use Rattle.elements.specs.Refusals.{refusal}
 use Rattle.assembly.specs.Start.{startAnswer}
 use Rattle.assembly.specs.Picking.{pickPart}
 use Rattle.assembly.specs.Stepping.{stepAnswer, stepMoved, stepCarry}
-use Rattle.assembly.specs.Streams.{End, rest, refused, Outcome, ended, handed, stream, joined}
+use Rattle.assembly.specs.Streams.{End, rest, refused, StreamOutcome, noFrames, handed, stream, joined}
 use Rattle.assembly.specs.declared.start.StartAnswer.the-variants as StartAnswer
 use Rattle.assembly.specs.declared.stepping.StepAnswer.{StepAnswer}
 use Rattle.assembly.specs.declared.stepping.StepAnswer.the-variants.{Chunk, Carry, More, Refused}
@@ -17,16 +17,16 @@ use Rattle.assembly.specs.declared.stepping.StepAnswer.the-variants.{Chunk, Car
 -- What a caller does with the answer to a step on the chunk c, `at` bytes of the stream being handed out: it takes the frame
 -- from the chunk and goes on after it; or it takes the frame from the carry, empties the carry and goes on with the rest of
 -- the chunk; or it goes on with the next chunk; or it stops. The buffer of the carry is as the step left it.
-abbrev pub runBy : StepAnswer → ℕ → List ℕ → ℕ → List ℕ → List (List ℕ) → (ℕ → List ℕ → ℕ → List (List ℕ) → Outcome) → Outcome
+abbrev pub runBy : StepAnswer → ℕ → List ℕ → ℕ → List ℕ → List (List ℕ) → (ℕ → List ℕ → ℕ → List (List ℕ) → StreamOutcome) → StreamOutcome
 runBy (Chunk n) at carry held c cs next = handed (take n c) (next (at + n) carry 0 (drop n c ∷ cs))
 runBy (Carry m n) at carry held c cs next = handed (take n carry) (next (at + n) carry 0 (drop m c ∷ cs))
 runBy (More m) at carry held c cs next = next at carry (held + m) cs
-runBy (Refused r) at carry held c cs next = ended (refused (r .0) at)
+runBy (Refused r) at carry held c cs next = noFrames (refused (r .0) at)
 
 -- the first number bounds the steps; what the carry holds after the last chunk is left over
-abbrev pub runFrom : ℕ → ℕ → List ℕ → ℕ → List (List ℕ) → Outcome
-runFrom zero at carry held cs = ended (rest (take held carry))
-runFrom (suc most) at carry held [] = ended (rest (take held carry))
+abbrev pub runFrom : ℕ → ℕ → List ℕ → ℕ → List (List ℕ) → StreamOutcome
+runFrom zero at carry held cs = noFrames (rest (take held carry))
+runFrom (suc most) at carry held [] = noFrames (rest (take held carry))
 runFrom (suc most) at carry held (c ∷ cs) = runBy (stepAnswer carry held c) at (stepCarry carry held c) held c cs (runFrom most)
 
 -- a step for each chunk, and for each byte at most one more
@@ -35,7 +35,7 @@ steps [] = 0
 steps (c ∷ cs) = suc (length c) + steps cs
 
 -- from an empty carry on, whatever its buffer holds
-unfoldable pub run : List ℕ → List (List ℕ) → Outcome
+unfoldable pub run : List ℕ → List (List ℕ) → StreamOutcome
 run carry chunks = runFrom (steps chunks) 0 carry 0 chunks
 
 -- ---- cut independence

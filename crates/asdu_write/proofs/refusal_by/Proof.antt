@@ -5,7 +5,7 @@ use native.Mathlib.Omega.{arith}
 use borrow.Author.Needs.{needs}
 use Rattle.elements.specs.Refusals.{refusal}
 use Rattle.elements.proofs.Refused.{none, stops, goes}
-use Rattle.asdu.specs.Writing.{roomRefusal, writeRefusalBy}
+use Rattle.asdu.specs.Writing.{sizeRefusal, writeRefusalBy}
 use Rattle.asdu.proofs.Lengths.{shape-fits}
 use Rattle.asdu_write.proofs.refusal_by.Statement.{statement}
 use Rattle.asdu_write.proofs.refusal_by.Tie as tie
@@ -42,17 +42,17 @@ cast-needed-len c =
 needed-len-requires : tie.Need-needed-len-requires
 needed-len-requires c κs = search needs
 
-room-refusal-requires : tie.Need-room-refusal-requires
-room-refusal-requires c κs = search needs
+size-refusal-requires : tie.Need-size-refusal-requires
+size-refusal-requires c κs = search needs
 
 returns-3 : tie.Need-returns-3
 unfolding writeRefusalBy
 returns-3 c =
     let t = c .before .before in
     let s = t .before .before .before in
-    c .room-refusal .ensures
+    c .size-refusal .ensures
     ∙ ap refusal
-    (ap (λ (n : ℕ). roomRefusal n (s .before .before .before .args .room)) (c .before .needed-len .ensures .0)
+    (ap (λ (n : ℕ). sizeRefusal n (s .before .before .before .args .room)) (c .before .needed-len .ensures .0)
     ∙ (goes _ _ (t .before .before .objects-refusal .ensures) (t .before .is-none2 .ensures) (t .if2 .left)
     ∙ goes _ _ (s .before .before .shape-refusal .ensures) (s .before .is-none .ensures) (s .if1 .left)))
 
@@ -68,5 +68,5 @@ refusal-by-spec =
     returns-2
     cast-needed-len
     needed-len-requires
-    room-refusal-requires
+    size-refusal-requires
     returns-3)

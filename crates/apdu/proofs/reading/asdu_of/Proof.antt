@@ -6,7 +6,7 @@ use lib.Seq.{drop-length}
 use borrow.Author.Needs.{needs}
 use denote.Enum.Declared.{tagOf}
 use types.Run.{OneOf, miss}
-use Rattle.apdu.specs.Reading.{partBy, asduPart}
+use Rattle.apdu.specs.Reading.{asduPartBy, asduPart}
 use Rattle.apdu.specs.declared.frame.FrameAnswer.{FrameAnswer}
 use Rattle.apdu.specs.declared.frame.FrameAnswer.the-variants.{I, S, U, Refused}
 use Rattle.apdu.proofs.frame.FrameAnswer.{the-type}
@@ -17,7 +17,7 @@ use Rattle.apdu.proofs.reading.asdu_of.Tie as tie
 abbrev others : List ℕ
 others = 1 ∷ 2 ∷ 3 ∷ []
 
-none-of : (a : FrameAnswer) (f : List ℕ) → OneOf others (tagOf the-type a) → [] ≡ partBy a f
+none-of : (a : FrameAnswer) (f : List ℕ) → OneOf others (tagOf the-type a) → [] ≡ asduPartBy a f
 none-of (I s r) f h = absurd (miss others 0 tt h)
 none-of (S r) f h = refl
 none-of (U u) f h = refl
@@ -36,7 +36,7 @@ returns : tie.Need-returns
 unfolding asduPart
 returns c =
     let f = c .before .before .before .before .args .f .now in
-    c .part-from .ensures ∙ (drop-length f ∙ (none-of (c .before .before .read-frame .result) f (c .before .match .keys2) ∙ ap (λ (a : FrameAnswer). partBy a f) (c .before .before .read-frame .ensures)))
+    c .part-from .ensures ∙ (drop-length f ∙ (none-of (c .before .before .read-frame .result) f (c .before .match .keys2) ∙ ap (λ (a : FrameAnswer). asduPartBy a f) (c .before .before .read-frame .ensures)))
 
 part-from-requires-2 : tie.Need-part-from-requires-2
 part-from-requires-2 c κs = search needs
@@ -46,7 +46,7 @@ unfolding asduPart
 returns-2 c =
     let f = c .before .before .before .before .before .args .f .now in
     let is = sym (c .before .before .before .read-frame .ensures) ∙ c .before .enum-told .given .1 in
-    c .part-from2 .ensures ∙ sym (ap (λ (a : FrameAnswer). partBy a f) is)
+    c .part-from2 .ensures ∙ sym (ap (λ (a : FrameAnswer). asduPartBy a f) is)
 
 pub asdu-of-spec : {M : Type 1} → statement M
 asdu-of-spec =

@@ -8,12 +8,12 @@ use Rattle.elements.specs.Refusals.{refusal}
 use Rattle.elements.proofs.Refused.{stops, goes}
 use Rattle.objects.specs.Kinds.{kindOf}
 use Rattle.objects.specs.declared.kinds.KindAnswer.{KindAnswer}
-use Rattle.asdu.specs.Header.{startRefusal, layoutRefusal, kindRefusal, headerRefusal}
+use Rattle.asdu.specs.Header.{earlyRefusal, layoutRefusal, headerRefusalBy, headerRefusal}
 use Rattle.asdu.proofs.header.header_refusal.Statement.{statement}
 use Rattle.asdu.proofs.header.header_refusal.Tie as tie
 
-start-refusal-requires : tie.Need-start-refusal-requires
-start-refusal-requires c κs = search needs
+early-refusal-requires : tie.Need-early-refusal-requires
+early-refusal-requires c κs = search needs
 
 is-none-requires : tie.Need-is-none-requires
 is-none-requires c κs = search needs
@@ -22,7 +22,7 @@ returns : tie.Need-returns
 unfolding headerRefusal
 returns c =
     let s = c .before .before .before .before .args .s .now in
-    stops (startRefusal s) (kindRefusal (kindOf (getD s 0 0)) s) (c .before .before .start-refusal .ensures) (c .before .is-none .ensures) (c .if1 .taken)
+    stops (earlyRefusal s) (headerRefusalBy (kindOf (getD s 0 0)) s) (c .before .before .early-refusal .ensures) (c .before .is-none .ensures) (c .if1 .taken)
 
 octet-at-requires : tie.Need-octet-at-requires
 octet-at-requires c κs = search needs
@@ -41,8 +41,8 @@ unfolding headerRefusal
 returns-2 c =
     let s = c .before .before .before .before .before .before .before .before .args .s .now in
     let found = sym (c .before .before .kind-of .ensures ∙ ap kindOf (c .before .before .before .octet-at .ensures)) ∙ c .enum-told .given .1 in
-    let past = goes (startRefusal s) (kindRefusal (kindOf (getD s 0 0)) s) (c .before .before .before .before .before .before .start-refusal .ensures) (c .before .before .before .before .before .is-none .ensures) (c .before .before .before .before .if1 .left) in
-    ap refusal (ap (λ (a : KindAnswer). kindRefusal a s) (sym found) ∙ past)
+    let past = goes (earlyRefusal s) (headerRefusalBy (kindOf (getD s 0 0)) s) (c .before .before .before .before .before .before .early-refusal .ensures) (c .before .before .before .before .before .is-none .ensures) (c .before .before .before .before .if1 .left) in
+    ap refusal (ap (λ (a : KindAnswer). headerRefusalBy a s) (sym found) ∙ past)
 
 octet-at-requires-2 : tie.Need-octet-at-requires-2
 octet-at-requires-2 c κs = search needs
@@ -56,15 +56,15 @@ returns-3 c =
     let s = c .before .before .before .before .before .before .before .before .before .before .before .args .s .now in
     let k = c .before .before .before .found .given .0 .0 in
     let found = sym (c .before .before .before .before .before .kind-of .ensures ∙ ap kindOf (c .before .before .before .before .before .before .octet-at .ensures)) ∙ c .before .before .before .found .given .1 in
-    let past = goes (startRefusal s) (kindRefusal (kindOf (getD s 0 0)) s) (c .before .before .before .before .before .before .before .before .before .start-refusal .ensures) (c .before .before .before .before .before .before .before .before .is-none .ensures) (c .before .before .before .before .before .before .before .if1 .left) in
+    let past = goes (earlyRefusal s) (headerRefusalBy (kindOf (getD s 0 0)) s) (c .before .before .before .before .before .before .before .before .before .early-refusal .ensures) (c .before .before .before .before .before .before .before .before .is-none .ensures) (c .before .before .before .before .before .before .before .if1 .left) in
     let is = c .layout-refusal .ensures ∙ ap (λ (o : ℕ). refusal (layoutRefusal k (eqb (o / 128 % 2) 1) (o % 128) (length s))) (c .before .octet-at2 .ensures) in
-    is ∙ ap refusal (ap (λ (a : KindAnswer). kindRefusal a s) (sym found) ∙ past)
+    is ∙ ap refusal (ap (λ (a : KindAnswer). headerRefusalBy a s) (sym found) ∙ past)
 
 pub header-refusal-spec : {M : Type 1} → statement M
 header-refusal-spec =
     tie.close
     (tie.spec
-    start-refusal-requires
+    early-refusal-requires
     is-none-requires
     returns
     octet-at-requires

@@ -1,7 +1,7 @@
 -- `assembly::picking::pick` meets its contract. Assumes nothing.
 use mathlib.Core.Path.{sym, ap, _∙_}
 use borrow.Author.Needs.{needs}
-use Rattle.assembly.specs.Picking.{partBy, pickPart}
+use Rattle.assembly.specs.Picking.{pickPartBy, pickPart}
 use Rattle.assembly.specs.declared.picking.PickAnswer.{PickAnswer}
 use Rattle.assembly.proofs.picking.pick.Statement.{statement}
 use Rattle.assembly.proofs.picking.pick.Tie as tie
@@ -37,25 +37,25 @@ returns : tie.Need-returns
 unfolding pickPart
 returns c =
     let a = c .before .before .before .before .before .before .before .args in
-    c .part-to .ensures ∙ ap (λ (p : PickAnswer). partBy p (a .carry .now) (a .chunk .now)) (sym (c .before .before .answer .given .1) ∙ c .before .before .before .before .which .ensures)
+    c .part-to .ensures ∙ ap (λ (p : PickAnswer). pickPartBy p (a .carry .now) (a .chunk .now)) (sym (c .before .before .answer .given .1) ∙ c .before .before .before .before .which .ensures)
 
 returns-2 : tie.Need-returns-2
 unfolding pickPart
 returns-2 c =
     let a = c .before .before .before .before .before .before .before .args in
-    c .part-to2 .ensures ∙ ap (λ (p : PickAnswer). partBy p (a .carry .now) (a .chunk .now)) (sym (c .before .before .answer2 .given .1) ∙ c .before .before .before .before .which .ensures)
+    c .part-to2 .ensures ∙ ap (λ (p : PickAnswer). pickPartBy p (a .carry .now) (a .chunk .now)) (sym (c .before .before .answer2 .given .1) ∙ c .before .before .before .before .which .ensures)
 
 returns-3 : tie.Need-returns-3
 unfolding pickPart
 returns-3 c =
     let a = c .before .before .before .before .before .before .args in
-    c .part-to3 .ensures ∙ ap (λ (p : PickAnswer). partBy p (a .carry .now) (a .chunk .now)) (sym (c .before .enum-told .given .1) ∙ c .before .before .before .which .ensures)
+    c .part-to3 .ensures ∙ ap (λ (p : PickAnswer). pickPartBy p (a .carry .now) (a .chunk .now)) (sym (c .before .enum-told .given .1) ∙ c .before .before .before .which .ensures)
 
 returns-4 : tie.Need-returns-4
 unfolding pickPart
 returns-4 c =
     let a = c .before .before .before .before .before .before .args in
-    c .part-to4 .ensures ∙ ap (λ (p : PickAnswer). partBy p (a .carry .now) (a .chunk .now)) (sym (c .before .enum-told2 .given .1) ∙ c .before .before .before .which .ensures)
+    c .part-to4 .ensures ∙ ap (λ (p : PickAnswer). pickPartBy p (a .carry .now) (a .chunk .now)) (sym (c .before .enum-told2 .given .1) ∙ c .before .before .before .which .ensures)
 
 pub pick-spec : {M : Type 1} → statement M
 pick-spec =
