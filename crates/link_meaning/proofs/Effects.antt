@@ -253,7 +253,7 @@ none-waits : (ws : List (List ℕ)) → (0 < length ws → ⊥) → ws ≡ []
 none-waits [] h = refl
 none-waits (w ∷ ws) h = absurd (h (omega arith))
 
-not-refused : (s : List ℕ) (r : Refusal) → plainAnswer s ≡ PlainAnswer.Refused r → eqb (r .0) 0 ≡ false
+pub not-refused : (s : List ℕ) (r : Refusal) → plainAnswer s ≡ PlainAnswer.Refused r → eqb (r .0) 0 ≡ false
 unfolding plainAnswer
 not-refused s r e = by (eqb (readRefusal s) 0) refl (plainBy (headerAnswer s) s) e
   where

@@ -5,6 +5,7 @@ use Rattle.promises.specs.Streams.{StreamLevel}
 use Rattle.promises.specs.Demand3Runs.{Demand3Level}
 use Rattle.promises.proofs.ReadBack.{reads-back}
 use Rattle.promises.proofs.WriteAgain.{writes-again}
+use Rattle.promises.proofs.Alike.{writes-alike}
 use Rattle.promises.proofs.Tells.{tells}
 use Rattle.promises.proofs.Accepts.{accepts}
 use Rattle.promises.proofs.Answered.{answers}
@@ -21,7 +22,7 @@ use Rattle.promises.proofs.Demand3Shown.{shows}
 use Rattle.promises.proofs.Demand3Reach.{reaches}
 
 pub asdu-level : AsduLevel
-asdu-level = record { back = reads-back; again = writes-again; tells = tells; accepts = accepts; answers = answers }
+asdu-level = record { back = reads-back; again = writes-again; alike = writes-alike; tells = tells; accepts = accepts; answers = answers }
 
 pub frame-level : FrameLevel
 frame-level = record { back = frame-reads-back; again = frame-writes-again; tells = frame-tells; accepts = frame-accepts }

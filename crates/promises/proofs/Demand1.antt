@@ -1,12 +1,12 @@
 -- What a refusal leaves: every lent byte, and of the link all but the mark and the reason where it closes. Assumes nothing.
 use Prim.Native.Nat.{ℕ, _+_, _<_, _≤_}
-use mathlib.Core.Path.{_≡_, refl, sym, ap, _∙_}
-use mathlib.Core.Bool.{Bool, true, false, _&&_}
+use mathlib.Core.Path.{_≡_, refl, sym, ap, subst, _∙_}
+use mathlib.Core.Bool.{Bool, true, false, _&&_, _||_}
 use mathlib.Core.List.{List, [], _++_}
 use native.Mathlib.Omega.{arith}
-use borrow.Author.Tests.{eqb-true, eq-eqb, ne-eqb, le-leb, lt-leb}
+use borrow.Author.Tests.{eqb-true, eqb-false, ltb-false, eq-eqb, ne-eqb, le-leb, lt-leb}
 use lib.ListN.{length, getD, drop}
-use lib.Dec.{eqb, leb}
+use lib.Dec.{eqb, leb, ltb}
 use Rattle.laws.specs.Choice.{pick}
 use Rattle.laws.specs.Lists.{Octets}
 use Rattle.elements.specs.Refusals.{refusal, queueFull, notPlainForm, wrongReceiveNumber, wrongSendNumber, uNotAnswered, tooManyTests}
@@ -48,13 +48,14 @@ use Rattle.link_state.specs.declared.State.{State}
 use Rattle.link_state.specs.declared.Link.{Link}
 use Rattle.link_state.proofs.Sound.{Sound, sound-state, passed}
 use Rattle.link.specs.Frames.{wire, stopAct, stopCon, testAct, testCon}
-use Rattle.link.specs.Making.{windowOpen, windowFull}
+use Rattle.link.specs.Making.{Making, withClock, windowOpen, windowFull, become, confirmedOf, confirm, due, ending, shut}
 use Rattle.link.specs.Events.{Outcome, refusing, closing, accepting, sFreeing, onS, iFreeing, onI, testActed, testConfirmed, onU, onAnswer, onFrame, sendPlain, sendBy, onSend, onStop, tooMany, onTest, isDue, t1iDue, tickRefusal, onTick, Event, frame, send, stop, test, tick, eventOutcome, called}
 use Rattle.link.specs.Contracts.{answerOf, calledOf, linkFull, linkCame}
 use Rattle.link.specs.declared.answers.LinkAnswer.the-variants as LinkAnswer
 use Rattle.link_meaning.specs.Meaning.{OctetsIn}
+use Rattle.link_meaning.proofs.Effects.{not-refused}
 use Rattle.promises.specs.Demand3.{Call, outcomeOf, entryOf, framed, brings}
-use Rattle.promises.specs.Demand1.{closes, closedBy, isI, LinkCall, Demand1Level}
+use Rattle.promises.specs.Demand1.{closes, closedBy, isI, moreToCome, LinkCall, Demand1Level}
 use Rattle.promises.proofs.Answered.{answers}
 use Rattle.promises.proofs.Acknowledged.{ack-is}
 use Rattle.promises.proofs.Ranges.{read-most, frame-most}
@@ -162,13 +163,42 @@ send-stays asdu n q = rw (lt-leb 27 n (omega arith))
 
 -- ---- how a call comes out
 
--- accepted; or refused with everything as it was; or refused and closed
-data Ending (e : Event) (s : State) (times pool : List ℕ) (o : Outcome) : Type 0 where
-  accepted : o .refused ≡ 0 → o .came ≡ isI (brings e) → Ending e s times pool o
-  kept : (r : ℕ) → closes e r ≡ false → r ≤ 33 → (r ≡ 0 → isI (brings e) ≡ false) → o ≡ refusing r s times pool → Ending e s times pool o
-  ended : (r : ℕ) → closes e r ≡ true → r ≤ 33 → 1 ≤ r → o ≡ closing r s times pool → Ending e s times pool o
+-- the count is at most w, where the link goes on and no more is to come
+abbrev Confirmed : Event → State → Type 0
+Confirmed e s = s .status .closed ≡ false → moreToCome e ≡ false → s .receive .unconfirmed ≤ s .settings .w
 
-by-test : {e : Event} {s : State} {times pool : List ℕ} (b : Bool) {o q : Outcome} → Ending e s times pool o → Ending e s times pool q → Ending e s times pool (pick b o q)
+-- accepted; or refused with everything as it was; or refused and closed
+data Ending (e : Event) (s : State) (times pool : List ℕ) (now : ℕ) (o : Outcome) : Type 0 where
+  accepted : o .refused ≡ 0 → o .came ≡ isI (brings e) → o .state .clock ≡ now → Confirmed e (o .state) → Ending e s times pool now o
+  kept : (r : ℕ) → closes e r ≡ false → r ≤ 33 → 1 ≤ r → o ≡ refusing r s times pool → Ending e s times pool now o
+  ended : (r : ℕ) → closes e r ≡ true → r ≤ 33 → 1 ≤ r → o ≡ closing r s times pool → Ending e s times pool now o
+
+record Settled (g : Making) : Type 0 where
+  most : g .state .receive .unconfirmed ≤ g .state .settings .w
+
+-- the rule of confirming, at the end of a call
+settled : (now : ℕ) (g : Making) → Settled (ending false now g)
+unfolding ending due confirm confirmedOf
+settled now g = by (ltb (g .state .settings .w) (g .state .receive .unconfirmed)) (leb 32768 (g .state .receive .unconfirmed)) refl
+  where
+    by : (t v : Bool) → ltb (g .state .settings .w) (g .state .receive .unconfirmed) ≡ t
+        → Settled (pick ((t && true) || v) (confirm (become (λ (s : State). withClock s now) g)) (become (λ (s : State). withClock s now) g))
+    by true v e = record { most = omega arith }
+    by false true e = record { most = omega arith }
+    by false false e = record { most = ltb-false (g .state .settings .w) (g .state .receive .unconfirmed) e }
+
+ending-clock : (more : Bool) (now : ℕ) (g : Making) → ending more now g .state .clock ≡ now
+unfolding ending confirm confirmedOf
+ending-clock more now g = by (due (g .state) more)
+  where
+    by : (t : Bool) → pick t (confirm (become (λ (s : State). withClock s now) g)) (become (λ (s : State). withClock s now) g) .state .clock ≡ now
+    by true = refl
+    by false = refl
+
+settled-by : (more : Bool) (now : ℕ) (g : Making) → more ≡ false → Settled (ending more now g)
+settled-by more now g m = subst (λ (b : Bool). Settled (ending b now g)) (sym m) (settled now g)
+
+by-test : {e : Event} {s : State} {times pool : List ℕ} {now : ℕ} (b : Bool) {o q : Outcome} → Ending e s times pool now o → Ending e s times pool now q → Ending e s times pool now (pick b o q)
 by-test true x y = x
 by-test false x y = y
 
@@ -181,27 +211,31 @@ module _ (s : State) (times pool : List ℕ) (now : ℕ) where
     held-low = let h = sound .held-k in let k = sound .k-high in omega arith
 
     s-ending : isI (brings came-in) ≡ false → (t : Bool) (d : ℕ)
-        → Ending came-in s times pool (sFreeing (pick t (AckAnswer.Frees d) (AckAnswer.Refused (refusal wrongReceiveNumber))) s times pool more now)
+        → Ending came-in s times pool now (sFreeing (pick t (AckAnswer.Frees d) (AckAnswer.Refused (refusal wrongReceiveNumber))) s times pool more now)
     unfolding sFreeing accepting
-    s-ending is true d = accepted refl (sym is)
+    s-ending is true d = accepted refl (sym is) (ending-clock more now _) (λ z m. settled-by more now _ m .most)
     s-ending is false d = ended wrongReceiveNumber (shuts came-in 27 (omega arith) (omega arith)) (omega arith) (omega arith) refl
 
     i-ending : isI (brings came-in) ≡ true → (t : Bool) (d : ℕ)
-        → Ending came-in s times pool (iFreeing (pick t (AckAnswer.Frees d) (AckAnswer.Refused (refusal wrongReceiveNumber))) s times pool more now)
+        → Ending came-in s times pool now (iFreeing (pick t (AckAnswer.Frees d) (AckAnswer.Refused (refusal wrongReceiveNumber))) s times pool more now)
     unfolding iFreeing accepting
-    i-ending is true d = accepted refl (sym is)
+    i-ending is true d = accepted refl (sym is) (ending-clock more now _) (λ z m. settled-by more now _ m .most)
     i-ending is false d = ended wrongReceiveNumber (shuts came-in 27 (omega arith) (omega arith)) (omega arith) (omega arith) refl
 
-    u-ending : isI (brings came-in) ≡ false → (u : UFrame) → Ending came-in s times pool (onU u s times pool more now)
-    unfolding onU testActed testConfirmed accepting
+    -- a stop ends the link
+    over : {n : ℕ} → true ≡ false → moreToCome came-in ≡ false → n ≤ s .settings .w
+    over z m = let y : _≡_ {A = ℕ} 0 1 = cc in absurd (omega arith)
+
+    u-ending : isI (brings came-in) ≡ false → (u : UFrame) → Ending came-in s times pool now (onU u s times pool more now)
+    unfolding onU testActed testConfirmed accepting shut
     u-ending is u =
-        by-test (eqb (uOctet u) testAct) (accepted refl (sym is))
-        (by-test (eqb (uOctet u) testCon) (accepted refl (sym is))
-        (by-test (eqb (uOctet u) stopAct) (accepted refl (sym is))
-        (by-test (eqb (uOctet u) stopCon) (accepted refl (sym is))
+        by-test (eqb (uOctet u) testAct) (accepted refl (sym is) (ending-clock more now _) (λ z m. settled-by more now _ m .most))
+        (by-test (eqb (uOctet u) testCon) (accepted refl (sym is) (ending-clock more now _) (λ z m. settled-by more now _ m .most))
+        (by-test (eqb (uOctet u) stopAct) (accepted refl (sym is) refl over)
+        (by-test (eqb (uOctet u) stopCon) (accepted refl (sym is) refl over)
         (ended uNotAnswered (shuts came-in 29 (omega arith) (omega arith)) (omega arith) (omega arith) refl))))
 
-    by-answer : {a : FrameAnswer} → frameAnswer f ≡ a → Ending came-in s times pool (onAnswer a s times pool more now) → Ending came-in s times pool (onFrame f more s times pool now)
+    by-answer : {a : FrameAnswer} → frameAnswer f ≡ a → Ending came-in s times pool now (onAnswer a s times pool more now) → Ending came-in s times pool now (onFrame f more s times pool now)
     unfolding onFrame
     by-answer g x = rw g x
 
@@ -217,11 +251,11 @@ module _ (s : State) (times pool : List ℕ) (now : ℕ) where
     unfolding confirmed
     acknowledges = ack-is (s .window .next .0) (s .window .held) (numberAt 4 f) (sound .next-high) held-low (number-low f o)
 
-    frame-ending : Ending came-in s times pool (onFrame f more s times pool now)
+    frame-ending : Ending came-in s times pool now (onFrame f more s times pool now)
     unfolding onAnswer onI onS
     frame-ending = by (shape f)
       where
-        by : Shape f → Ending came-in s times pool (onFrame f more s times pool now)
+        by : Shape f → Ending came-in s times pool now (onFrame f more s times pool now)
         by (i-shape c g) =
             by-answer g
             (by-test (eqb (numberAt 2 f) (s .receive .next .0))
@@ -234,34 +268,38 @@ module _ (s : State) (times pool : List ℕ) (now : ℕ) where
             let low : 1 ≤ r .0 = omega (arith, n) in
             by-answer g (ended (r .0) (frame-shuts f more (r .0) low high) (omega arith) low refl)
 
-  plain-ending : (asdu : List ℕ) → Ending (send asdu) s times pool (sendPlain asdu s times pool now)
+  plain-ending : (asdu : List ℕ) → Ending (send asdu) s times pool now (sendPlain asdu s times pool now)
   unfolding sendPlain accepting
   plain-ending asdu =
-      by-test (windowOpen s) (accepted refl refl)
-      (by-test (leb (s .settings .p) (s .queue .count)) (kept queueFull (stays (send asdu) 25 (omega arith) (omega arith)) (omega arith) (λ z. refl) refl) (accepted refl refl))
+      by-test (windowOpen s) (accepted refl refl (ending-clock false now _) (λ z m. settled now _ .most))
+      (by-test (leb (s .settings .p) (s .queue .count)) (kept queueFull (stays (send asdu) 25 (omega arith) (omega arith)) (omega arith) (omega arith) refl)
+      (accepted refl refl (ending-clock false now _) (λ z m. settled now _ .most)))
 
-  send-by : (asdu : List ℕ) (q : PlainAnswer) → plainNumber q ≤ 17 → Ending (send asdu) s times pool (sendBy q asdu s times pool now)
+  send-by : (asdu : List ℕ) (q : PlainAnswer) → plainAnswer asdu ≡ q → plainNumber q ≤ 17 → Ending (send asdu) s times pool now (sendBy q asdu s times pool now)
   unfolding sendBy
-  send-by asdu PlainAnswer.Plain h = plain-ending asdu
-  send-by asdu PlainAnswer.Reserved h = kept notPlainForm (stays (send asdu) 26 (omega arith) (omega arith)) (omega arith) (λ z. refl) refl
-  send-by asdu (PlainAnswer.Refused r) h = kept (r .0) (send-stays asdu (r .0) (omega arith)) (omega arith) (λ z. refl) refl
+  send-by asdu PlainAnswer.Plain e h = plain-ending asdu
+  send-by asdu PlainAnswer.Reserved e h = kept notPlainForm (stays (send asdu) 26 (omega arith) (omega arith)) (omega arith) (omega arith) refl
+  send-by asdu (PlainAnswer.Refused r) e h =
+      let some = eqb-false (r .0) 0 (not-refused asdu r e) in
+      kept (r .0) (send-stays asdu (r .0) (omega arith)) (omega arith) (omega (arith, some)) refl
 
-  send-ending : (asdu : List ℕ) → Ending (send asdu) s times pool (onSend asdu s times pool now)
+  send-ending : (asdu : List ℕ) → Ending (send asdu) s times pool now (onSend asdu s times pool now)
   unfolding onSend
-  send-ending asdu = send-by asdu (plainAnswer asdu) (omega (arith, answers .telling asdu, read-most 17 (omega arith) asdu (λ z. omega arith)))
+  send-ending asdu = send-by asdu (plainAnswer asdu) refl (omega (arith, answers .telling asdu, read-most 17 (omega arith) asdu (λ z. omega arith)))
 
-  stop-ending : Ending stop s times pool (onStop s times pool now)
+  stop-ending : Ending stop s times pool now (onStop s times pool now)
   unfolding onStop accepting
-  stop-ending = accepted refl refl
+  stop-ending = accepted refl refl (ending-clock false now _) (λ z m. settled now _ .most)
 
-  test-ending : Ending test s times pool (onTest s times pool now)
+  test-ending : Ending test s times pool now (onTest s times pool now)
   unfolding onTest accepting
   test-ending =
-      by-test (tooMany s) (ended tooManyTests (shuts test 32 (omega arith) (omega arith)) (omega arith) (omega arith) refl) (accepted refl refl)
+      by-test (tooMany s) (ended tooManyTests (shuts test 32 (omega arith) (omega arith)) (omega arith) (omega arith) refl)
+      (accepted refl refl (ending-clock false now _) (λ z m. settled now _ .most))
 
   data Due (n : ℕ) : Type 0 where
-    not-due : n ≡ 0 → Due n
-    due : 27 ≤ n → n ≤ 32 → Due n
+    no-timeout : n ≡ 0 → Due n
+    timeout : 27 ≤ n → n ≤ 32 → Due n
 
   due-test : (b : Bool) {x y : ℕ} → Due x → Due y → Due (pick b x y)
   due-test true p q = p
@@ -270,19 +308,19 @@ module _ (s : State) (times pool : List ℕ) (now : ℕ) where
   tick-due : Due (tickRefusal s times now)
   unfolding tickRefusal
   tick-due =
-      due-test (isDue (s .timers .t1u) now) (due (omega arith) (omega arith))
-      (due-test (t1iDue s times now) (due (omega arith) (omega arith))
-      (due-test (isDue (s .timers .t3) now && tooMany s) (due (omega arith) (omega arith)) (not-due refl)))
+      due-test (isDue (s .timers .t1u) now) (timeout (omega arith) (omega arith))
+      (due-test (t1iDue s times now) (timeout (omega arith) (omega arith))
+      (due-test (isDue (s .timers .t3) now && tooMany s) (timeout (omega arith) (omega arith)) (no-timeout refl)))
 
-  tick-ending : Ending tick s times pool (onTick s times pool now)
+  tick-ending : Ending tick s times pool now (onTick s times pool now)
   unfolding onTick accepting
   tick-ending = by tick-due
     where
-      by : Due (tickRefusal s times now) → Ending tick s times pool (onTick s times pool now)
-      by (not-due z) = rw (eq-eqb (tickRefusal s times now) 0 z) (accepted refl refl)
-      by (due p q) = rw (ne-eqb (tickRefusal s times now) 0 (λ z. omega arith)) (ended (tickRefusal s times now) (shuts tick _ p q) (omega arith) (omega arith) refl)
+      by : Due (tickRefusal s times now) → Ending tick s times pool now (onTick s times pool now)
+      by (no-timeout z) = rw (eq-eqb (tickRefusal s times now) 0 z) (accepted refl refl (ending-clock false now _) (λ y m. settled now _ .most))
+      by (timeout p q) = rw (ne-eqb (tickRefusal s times now) 0 (λ z. omega arith)) (ended (tickRefusal s times now) (shuts tick _ p q) (omega arith) (omega arith) refl)
 
-  event-ending : (e : Event) → OctetsIn e → Sound s → Ending e s times pool (eventOutcome e s times pool now)
+  event-ending : (e : Event) → OctetsIn e → Sound s → Ending e s times pool now (eventOutcome e s times pool now)
   unfolding eventOutcome
   event-ending (frame f more) o sound = frame-ending f more o sound
   event-ending (send asdu) o sound = send-ending asdu
@@ -290,17 +328,17 @@ module _ (s : State) (times pool : List ℕ) (now : ℕ) where
   event-ending test o sound = test-ending
   event-ending tick o sound = tick-ending
 
-call-ending : (e : Event) (l : Link) (pool : List ℕ) (output now : ℕ) → OctetsIn e → Ending e (l .state) (l .times) pool (called e l pool output now)
+call-ending : (e : Event) (l : Link) (pool : List ℕ) (output now : ℕ) → OctetsIn e → Ending e (l .state) (l .times) pool now (called e l pool output now)
 unfolding called
 call-ending e l pool output now o = by (first-range l output (length pool) now)
   where
-    by : Range (callRefusal l output (length pool) now) → Ending e (l .state) (l .times) pool (called e l pool output now)
+    by : Range (callRefusal l output (length pool) now) → Ending e (l .state) (l .times) pool now (called e l pool output now)
     by (none z) =
         rw (eq-eqb (callRefusal l output (length pool) now) 0 z)
         (event-ending (l .state) (l .times) pool now e o (sound-state l (passed l output (length pool) now z .sound)))
     by (from-19-to-24 p q) =
         rw (ne-eqb (callRefusal l output (length pool) now) 0 (λ z. omega arith))
-        (kept (callRefusal l output (length pool) now) (stays e (callRefusal l output (length pool) now) (omega arith) (omega arith)) (omega arith) (λ z. absurd (omega arith)) refl)
+        (kept (callRefusal l output (length pool) now) (stays e (callRefusal l output (length pool) now) (omega arith) (omega arith)) (omega arith) (omega arith) refl)
 
 -- ---- the claim
 
@@ -326,44 +364,48 @@ module _ (c : Call) (l : Link) (pool : List ℕ) where
   unfolding calledOf
   number = number-is o
 
-  -- an outcome that is known
-  left : {q : Outcome} → o ≡ q → q .frames ≡ [] → q .pool ≡ pool → q .refused ≤ 33
-      → record { times = q .times; state = q .state } ≡ pick (closes (c .event) (q .refused)) (closedBy (q .refused) l) l
-      → (q .refused ≡ 0 → q .came ≡ isI (brings (c .event))) → LinkCall c l pool
+  -- a refused one
+  left : {q : Outcome} → o ≡ q → q .frames ≡ [] → q .pool ≡ pool → q .refused ≤ 33 → 1 ≤ q .refused
+      → record { times = q .times; state = q .state } ≡ pick (closes (c .event) (q .refused)) (closedBy (q .refused) l) l → LinkCall c l pool
   unfolding calledOf wire
-  left {q} is silent same small after came =
+  left {q} is silent same small low after =
       let n : entryOf c l pool .number ≡ q .refused = number ∙ ap (λ (x : Outcome). x .refused) is in
+      let never : entryOf c l pool .number ≡ 0 → ⊥ = λ z. omega arith in
       record {
         numbered = omega arith;
         output-same = λ h. rw (is, silent);
         pool-same = λ h. sym (pool-is (c .event) l pool (length (c .output)) (c .now)) ∙ (ap (λ (x : Outcome). x .pool) is ∙ same);
         link-after = λ h. rw n (ap (λ (x : Outcome). record { times = x .times; state = x .state }) is ∙ after);
-        full = λ z. full-is o (sym number ∙ z);
-        came = came-is o number (λ z. ap (λ (x : Outcome). x .came) is ∙ came (sym (ap (λ (x : Outcome). x .refused) is) ∙ z));
+        clocked = λ z. absurd (never z);
+        full = λ z. absurd (never z);
+        came = came-is o number (λ z. absurd (never (number ∙ z)));
+        confirmed = λ z. absurd (never z);
       }
 
   -- one that is accepted
-  taken : o .refused ≡ 0 → o .came ≡ isI (brings (c .event)) → LinkCall c l pool
+  taken : o .refused ≡ 0 → o .came ≡ isI (brings (c .event)) → o .state .clock ≡ c .now → Confirmed (c .event) (o .state) → LinkCall c l pool
   unfolding calledOf
-  taken z came =
+  taken z came clock low =
       let n = number in
       record {
         numbered = omega arith;
         output-same = λ h. absurd (omega arith);
         pool-same = λ h. absurd (omega arith);
         link-after = λ h. absurd (omega arith);
+        clocked = λ y. clock;
         full = λ y. full-is o z;
         came = came-is o number (λ y. came);
+        confirmed = λ y. low;
       }
 
   link-call : OctetsIn (c .event) → LinkCall c l pool
   unfolding refusing closing
   link-call octets = by (call-ending (c .event) l pool (length (c .output)) (c .now) octets)
     where
-      by : Ending (c .event) (l .state) (l .times) pool o → LinkCall c l pool
-      by (accepted z came) = taken z came
-      by (kept r stay small quiet is) = left is refl refl small (sym (ap (λ (b : Bool). pick b (closedBy r l) l) stay)) (λ z. sym (quiet z))
-      by (ended r close small low is) = left is refl refl small (sym (ap (λ (b : Bool). pick b (closedBy r l) l) close)) (λ z. absurd (omega arith))
+      by : Ending (c .event) (l .state) (l .times) pool (c .now) o → LinkCall c l pool
+      by (accepted z came clock confirmed) = taken z came clock confirmed
+      by (kept r stay small low is) = left is refl refl small low (sym (ap (λ (b : Bool). pick b (closedBy r l) l) stay))
+      by (ended r close small low is) = left is refl refl small low (sym (ap (λ (b : Bool). pick b (closedBy r l) l) close))
 
 pub demand-1-level : Demand1Level
 demand-1-level = record {

@@ -2,6 +2,7 @@ pub mod Bodies
 pub mod Accepts
 pub mod ReadBack
 pub mod WriteAgain
+pub mod Alike
 pub mod Tells
 pub mod Answered
 pub mod FrameBack

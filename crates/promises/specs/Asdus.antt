@@ -45,6 +45,7 @@ abbrev pub TypedObjects : List Object → Type 0
 TypedObjects [] = Unit {0}
 TypedObjects (o ∷ os) = (o .address < 4294967296) × (Typed (o .value) × TypedObjects os)
 
+-- the only premise on a record
 pub record TypedAsdu (a : Asdu) : Type 0 where
   pub array : length (a .objects) ≡ 127
   pub type-octet : a .«type_id» < 256
@@ -59,11 +60,13 @@ pub record Back (a b : Asdu) : Type 0 where
   pub same : Same a b
   pub rest : drop (b .count) (b .objects) ≡ drop (b .count) blanks
 
+-- its octets are accepted, and what they read as
 pub record ReadBack (a : Asdu) : Type 0 where
   pub accepted : readRefusal (asduOctets a) ≡ 0
   pub answered : answerNumber (readAsdu (asduOctets a) .answer) ≡ 0
   pub back : Back a (readAsdu (asduOctets a) .asdu)
 
+-- every record that the writer accepts in some room
 abbrev pub AsduReadsBack : Type 0
 AsduReadsBack = (a : Asdu) (room : ℕ) → TypedAsdu a → writeRefusal a room ≡ 0 → ReadBack a
 
@@ -74,10 +77,12 @@ abbrev pub times : ℕ → List Layout → List Layout
 times zero f = []
 times (suc n) f = f ++ times n f
 
+-- a sequence has one address, the plain layout one with each element
 abbrev pub bodyForm : Bool → Kind → ℕ → List Layout
 bodyForm true k n = replicate 3 whole ++ times n (formOf k)
 bodyForm false k n = times n (replicate 3 whole ++ formOf k)
 
+-- six octets of the header, then the body
 abbrev pub asduForm : HeaderAnswer → List Layout
 asduForm (HeaderAnswer.Refused r) = []
 asduForm (HeaderAnswer.Header h) = replicate 6 whole ++ bodyForm (h .sequence) (h .kind) (h .count)
@@ -103,6 +108,17 @@ pub record Told (s : List ℕ) : Type 0 where
 
 abbrev pub Tells : Type 0
 Tells = (s : List ℕ) → Octets s → Told s
+
+-- ---- ignores the rest
+
+-- "Reading sets the rest to address 0 and a clear SIQ, writing ignores them": records that are the same are refused alike, and
+-- written alike where they are accepted, whatever stands past the count
+pub record WrittenAlike (a b : Asdu) (room : ℕ) : Type 0 where
+  pub refused : writeRefusal a room ≡ writeRefusal b room
+  pub octets : writeRefusal a room ≡ 0 → asduOctets a ≡ asduOctets b
+
+abbrev pub WritesAlike : Type 0
+WritesAlike = (a b : Asdu) (room : ℕ) → Same a b → WrittenAlike a b room
 
 -- ---- accepts exactly the layout
 
@@ -156,6 +172,7 @@ pub record AnswerNumbers : Type 0 where
 pub record AsduLevel : Type 0 where
   pub back : AsduReadsBack
   pub again : AsduWritesAgain
+  pub alike : WritesAlike
   pub tells : Tells
   pub accepts : (s : List ℕ) → Accepts s
   pub answers : AnswerNumbers

@@ -92,6 +92,7 @@ AllHold (c ∷ cs) = Holds c × AllHold cs
 
 -- ---- the list
 
+-- document 01, "Cases", those marked *
 unfoldable pub marked : List Case
 marked =
     read (0x68 ∷ 0x04 ∷ 0x43 ∷ 0x00 ∷ 0x00 ∷ 0x00 ∷ []) (uFrame false false false false true false)

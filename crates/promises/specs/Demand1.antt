@@ -1,5 +1,5 @@
--- Demand 1: what a refusal leaves. A call is refused where its answer's number is not 0. In which case a number is given is what the
--- definitions of the refusals say (`readRefusal`, `writeRefusal`, `frameAnswer`, `topUpRefusal`, `callRefusal`, `called`, ..).
+-- Demand 1: what a refusal leaves. A call is refused where its answer's number is not 0. In which case a number is given is
+-- what the definitions of the refusals say (`readRefusal`, `writeRefusal`, `frameAnswer`, `topUpRefusal`, `called`, ..)
 use Prim.Native.Nat.{ℕ, _<_, _≤_}
 use mathlib.Core.Path.{_≡_}
 use mathlib.Core.Bool.{Bool, true, false, _&&_, _||_}
@@ -28,6 +28,7 @@ use Rattle.promises.specs.Demand3.{Call, answered, outputAfter, poolAfte
 
 -- ---- reading, writing, assembling, opening
 
+-- for every input, what stands beside a number that is not 0
 pub record RefusedLeaves : Type 0 where
   -- "a new record or link beside it is all 0, clear and unset"
   pub reading : (s : List ℕ) → 0 < answerNumber (readAsdu s .answer) → readAsdu s .asdu ≡ noAsdu
@@ -51,6 +52,7 @@ bringsFrame stop = false
 bringsFrame test = false
 bringsFrame tick = false
 
+-- whether a refusal with this number closes the link
 abbrev pub closes : Event → ℕ → Bool
 closes e n = between 27 32 n || (bringsFrame e && between 1 14 n)
 
@@ -65,6 +67,14 @@ isI (anS r) = false
 isI (anAsdu x) = false
 isI other = false
 
+-- the mark "more to come"
+abbrev pub moreToCome : Event → Bool
+moreToCome (frame f more) = more
+moreToCome (send asdu) = false
+moreToCome stop = false
+moreToCome test = false
+moreToCome tick = false
+
 -- a call on any record and any pool, sound or not
 pub record LinkCall (c : Call) (l : Link) (pool : List ℕ) : Type 0 where
   -- "Every refusal has a number from document 01"
@@ -75,9 +85,15 @@ pub record LinkCall (c : Call) (l : Link) (pool : List ℕ) : Type 0 where
   -- "One that closes the link sets only the closed mark and reason; any other leaves the link as it was."
   pub link-after : 0 < entryOf c l pool .number
       → answered c l pool .link ≡ pick (closes (c .event) (entryOf c l pool .number)) (closedBy (entryOf c l pool .number) l) l
+  -- "An accepted call sets the link's clock to its now."
+  pub clocked : entryOf c l pool .number ≡ 0 → answered c l pool .link .state .clock ≡ c .now
   -- "The answer reports whether the window is full"; "the link's answer says that an ASDU came": an I frame that was accepted
   pub full : entryOf c l pool .number ≡ 0 → linkFull (answered c l pool .answer) ≡ windowFull (answered c l pool .link .state)
   pub came : linkCame (answered c l pool .answer) ≡ (eqb (entryOf c l pool .number) 0 && isI (brings (c .event)))
+  -- "After every accepted call that has not ended the link, except a frame marked "more to come", confirm if the count is above w":
+  -- so the count is never above w then
+  pub confirmed : entryOf c l pool .number ≡ 0 → answered c l pool .link .state .status .closed ≡ false → moreToCome (c .event) ≡ false
+      → answered c l pool .link .state .receive .unconfirmed ≤ answered c l pool .link .state .settings .w
 
 -- ---- all of it
 

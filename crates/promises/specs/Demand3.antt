@@ -95,6 +95,7 @@ keepI (FrameAnswer.S r) f = []
 keepI (FrameAnswer.U u) f = []
 keepI (FrameAnswer.Refused r) f = []
 
+-- of all that were cut
 abbrev pub iFramesIn : List (List ℕ) → List (List ℕ)
 iFramesIn [] = []
 iFramesIn (f ∷ fs) = keepI (frameAnswer f) f ++ iFramesIn fs
@@ -204,6 +205,7 @@ countI (FrameAnswer.S y) s = s
 countI (FrameAnswer.U u) s = s
 countI (FrameAnswer.Refused q) s = s
 
+-- each of the frames handed out by one call
 abbrev pub Numbered : ℕ → ℕ → List (List ℕ) → Type 0
 Numbered s r [] = Unit {0}
 Numbered s r (f ∷ fs) = Carries (frameAnswer f) s r × Numbered (countI (frameAnswer f) s) r fs

@@ -32,12 +32,14 @@ GoesOn = (s : Settings) (start : ℕ) (pool : List ℕ) (past : List Entry) (l :
 abbrev pub small : Settings
 small = record { k = 1; w = 8; p = 2; t1 = 15000; t2 = 10000; t3 = 20000 }
 
+-- two ASDUs, each with one counter: 1000 at address 10, 2000 at address 11
 abbrev pub first : List ℕ
 first = 0x0F ∷ 0x01 ∷ 0x03 ∷ 0x00 ∷ 0x01 ∷ 0x00 ∷ 0x0A ∷ 0x00 ∷ 0x00 ∷ 0xE8 ∷ 0x03 ∷ 0x00 ∷ 0x00 ∷ 0x05 ∷ []
 
 abbrev pub second : List ℕ
 second = 0x0F ∷ 0x01 ∷ 0x03 ∷ 0x00 ∷ 0x01 ∷ 0x00 ∷ 0x0B ∷ 0x00 ∷ 0x00 ∷ 0xD0 ∷ 0x07 ∷ 0x00 ∷ 0x00 ∷ 0x05 ∷ []
 
+-- frames by their control octets: the octet is twice the number
 abbrev pub iWith : ℕ → ℕ → List ℕ → List ℕ
 iWith sent received asdu = 0x68 ∷ 0x12 ∷ sent ∷ 0x00 ∷ received ∷ 0x00 ∷ asdu
 

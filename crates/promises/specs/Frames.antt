@@ -30,6 +30,7 @@ pub record IBack (s r : ℕ) (a : Asdu) : Type 0 where
   pub part : asduPart (iOctets s r (asduOctets a)) ≡ asduOctets a
   pub back : ReadBack a
 
+-- "What the writer accepts reads back as the same record": I, S and U. A U frame has nothing that could be refused but its room
 pub record FrameReadsBack : Type 0 where
   pub i : (s r : ℕ) (a : Asdu) (room : ℕ) → TypedAsdu a → iRefusal s r a room ≡ 0 → IBack s r a
   pub s : (r room : ℕ) → sRefusal r room ≡ 0 → frameAnswer (sOctets r) ≡ S (receiveNumber r)
@@ -58,6 +59,7 @@ frameForm (S r) f = replicate 4 whole ++ ((7 at 1 ∷ []) ∷ whole ∷ [])
 frameForm (U u) f = replicate 6 whole
 frameForm (Refused r) f = []
 
+-- "What the reader accepts and we write again differs only in the reserved bits"
 pub record FrameAgain (f : List ℕ) (room : ℕ) : Type 0 where
   pub accepted : rewriteRefusal (frameAnswer f) f room ≡ 0
   pub long : length (rewritten (frameAnswer f) f) ≡ length f
