@@ -22,10 +22,9 @@ def with_reserved_bit(octets: bytes) -> bytes:
     return octets[:4] + bytes([octets[4] | 1]) + octets[5:]
 
 
-def longer(octets: bytes, by: int) -> bytes:
-    """One octet more or fewer at the end, with the L that fits."""
-    changed = octets + b"\0" if by > 0 else octets[:-1]
-    return changed[:1] + bytes([len(changed) - 2]) + changed[2:]
+def with_its_length(octets: bytes) -> bytes:
+    """The frame with the L that fits it."""
+    return octets[:1] + bytes([len(octets) - 2]) + octets[2:]
 
 
 def octets(rng: random.Random, count: int) -> Iterator[bytes]:
@@ -34,7 +33,7 @@ def octets(rng: random.Random, count: int) -> Iterator[bytes]:
         yield with_reserved_bit(frame(random_parts(rng, Kind("S"))))
         for kind in i_kinds():
             two = frame(of_count(rng, kind, 2))
-            yield from (longer(two, -1), longer(two, 1))
+            yield from (with_its_length(two[:-1]), with_its_length(two + b"\0"))
         yield from (frame(random_parts(rng, kind)) + rng.randbytes(1) for kind in all_kinds())
 
 
@@ -67,7 +66,7 @@ def control_octets(rng: random.Random) -> Iterator[Packet]:
 def headers(rng: random.Random) -> Iterator[Packet]:
     one = of_count(rng, rng.choice(i_kinds()), 1)
     yield packet(rng, one, cot=rng.choice([c for c in range(64) if c not in LISTED_CAUSES]))
-    yield packet(rng, one, num_io=rng.choice([n for n in range(2, 128)]))
+    yield packet(rng, one, num_io=rng.randint(2, 127))
     yield packet(rng, of_count(rng, SINGLE_POINTS, 2, LAST_ADDRESS))
     other = rng.choice([t for t in iec104.IEC104_IO_WITH_IOA_CLASSES if t not in ELEMENT_SIZES])
     yield iec104.IEC104_I_Message_SingleIOA(cot=3, io=[iec104.IEC104_IO_WITH_IOA_CLASSES[other]()])
