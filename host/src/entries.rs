@@ -10,7 +10,8 @@ pub struct Entry {
     pub level: &'static str,
 }
 
-/// The entries in their order, from headings such as `## D15 Confirming comes above w (link, kept)`.
+/// The entries in their order, from headings such as `## D15 Confirming comes above w (link, kept)`. Those on scapy
+/// (host/interop) have no part in brackets and are not among them.
 pub fn all() -> impl Iterator<Item = Entry> {
     DIFFERENCES.lines().filter_map(|line| {
         let heading = line.strip_prefix("## ").filter(|heading| heading.starts_with('D'))?;
