@@ -20,7 +20,8 @@ use Rattle.link.specs.Frames.{Frame, iFrame, sFrame, uWith, octetsOf, wire, tes
 use Rattle.link.specs.Making.{Making, become, say, sentOf, confirm, confirmedOf, tested, testedOf, ending, handOut, letOut, due, withClock, shut}
 use Rattle.link.specs.Events.{start, accepting, closing, refusing}
 use Rattle.link.specs.Contracts.{Makes, HandsOut, Answers, madeOf, doneStep, refusedStep, stepOf, answerOf}
-use Rattle.link_steps.proofs.Stored.{wire-append, wire-one, i-length, s-length, u-length}
+use Rattle.apdu.proofs.Answers.{i-long, s-long, u-long}
+use Rattle.link.proofs.Wires.{wire-append, wire-one}
 
 -- frames before those of a call in the making
 abbrev pub after : List Frame → Making → Making
@@ -64,7 +65,7 @@ pub makes-u : (octet : ℕ) (s : State) (ts : List ℕ) (at : ℕ) (out : List �
     → end ≡ at + 6 → out₁ ≡ sets out at (startOctets 4 (uOctet (uOf octet)) 0)
     → Makes (say (uWith octet) (start s ts)) at out (record { state = s; end = end }) out₁
 unfolding octetsOf uOctets
-makes-u octet s ts at out e o = makes-say (uWith octet) s ts at out (e ∙ ap (λ (n : ℕ). at + n) (sym (u-length (uOf octet)))) o
+makes-u octet s ts at out e o = makes-say (uWith octet) s ts at out (e ∙ ap (λ (n : ℕ). at + n) (sym (u-long (uOf octet)))) o
 
 -- nothing yet
 pub makes-none : (s : State) (ts : List ℕ) (at : ℕ) (out : List ℕ) → Makes (start s ts) at out (record { state = s; end = at }) out
@@ -79,7 +80,7 @@ makes-confirm s ts at out e o =
     let f = sFrame (s .receive .next .0) in
     record {
       state = ap (λ (r : Made). r .state) e;
-      end = ap (λ (r : Made). r .end) e ∙ rw (wire-one f, s-length (s .receive .next .0));
+      end = ap (λ (r : Made). r .end) e ∙ rw (wire-one f, s-long (s .receive .next .0));
       octets = o ∙ rw (wire-one f);
     }
 
@@ -90,7 +91,7 @@ makes-tested now s ts at out e o =
     let f = uWith testAct in
     record {
       state = ap (λ (r : Made). r .state) e;
-      end = ap (λ (r : Made). r .end) e ∙ rw (wire-one f, u-length (uOf testAct));
+      end = ap (λ (r : Made). r .end) e ∙ rw (wire-one f, u-long (uOf testAct));
       octets = o ∙ rw (wire-one f);
     }
 
@@ -108,7 +109,7 @@ hands-out now s ts asdu at out {out₁ = out₁} e f one two ring =
     record {
       makes = record {
         state = e;
-        end = f ∙ rw (w, i-length a b asdu) (add-assoc at 6 (length asdu));
+        end = f ∙ rw (w, i-long a b asdu) (add-assoc at 6 (length asdu));
         octets = two ∙ rw (one, w) (sym (sets-append out at (startOctets (4 + length asdu) (a * 2) (b * 2)) asdu));
       };
       ring = ring;
@@ -119,14 +120,6 @@ hands-out now s ts asdu at out {out₁ = out₁} e f one two ring =
 pub confirm-appends : Appends confirm
 unfolding confirm
 confirm-appends g = refl
-
-pub tested-appends : (now : ℕ) → Appends (tested now)
-unfolding tested
-tested-appends now g = refl
-
-pub handOut-appends : (now : ℕ) (asdu : List ℕ) → Appends (handOut now asdu)
-unfolding handOut
-handOut-appends now asdu g = refl
 
 pub letOut-appends : (now : ℕ) (pool : List ℕ) → Appends (letOut now pool)
 unfolding letOut handOut
