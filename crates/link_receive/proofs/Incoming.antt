@@ -32,7 +32,7 @@ use Rattle.link.specs.Frames.{wire, stopAct, stopCon, testAct, testCon}
 use Rattle.link.specs.Making.{Making, freedOf, room, sendWaiting, setT3, startT2, become, ending, shut}
 use Rattle.link.specs.Events.{accepting, closing, start, release, sFreeing, onS, received, iFreeing, onI, testActed, testConfirmed, stopped, onU, onAnswer, onFrame}
 use Rattle.link.specs.Contracts.{Makes, HandsOut, Answers, Does, Timed, Open, doneStep, refusedStep}
-use Rattle.link_steps.proofs.Made.{makes-then, makes-become, makes-u, makes-none, ending-appends, answers-accepting, answers-closing}
+use Rattle.link_steps.proofs.Made.{makes-become, makes-u, makes-none, answers-accepting, answers-ending, answers-closing}
 use Rattle.link_steps.proofs.Flushing.{after-flush, can-flush, flush-short}
 use Rattle.link_steps.proofs.Unchanged.{ending-times}
 
@@ -150,8 +150,7 @@ module _ (s : State) (number : ℕ) (ts ps out : List ℕ) (more : Bool) (now : 
   s-frees {d} is let-out timed finished accepted =
       let g = release d now s ts ps in
       let one = makes-become (setT3 now) (let-out .makes) timed in
-      let two = makes-then (ending-appends more now) one (one .state) (finished (g .times)) in
-      rw (right is) (record { answers = answers-accepting false ps two accepted; ring = let-out .ring ∙ sym (ending-times more now (become (setT3 now) g)) })
+      rw (right is) (record { answers = answers-ending false more now ps one (one .state) finished accepted; ring = let-out .ring ∙ sym (ending-times more now (become (setT3 now) g)) })
 
   pub i-frees : (sent : ℕ) {d : ℕ} {m ended : Made} {c t₂ t : State} {r : Step} {ts₁ out₁ out₂ : List ℕ} → sent ≡ s .receive .next .0 → a ≡ AckAnswer.Frees d
       → c ≡ received s → HandsOut (release d now c ts ps) 0 out m ts₁ out₁ → t₂ ≡ startT2 now (m .state) → t ≡ setT3 now t₂
@@ -163,8 +162,7 @@ module _ (s : State) (number : ℕ) (ts ps out : List ℕ) (more : Bool) (now : 
       let f : State → State = λ x. setT3 now (startT2 now x) in
       let let-out′ : HandsOut g 0 out m ts₁ out₁ = rw counted at let-out in
       let one = makes-become f (let-out′ .makes) (timed ∙ ap (setT3 now) started) in
-      let two = makes-then (ending-appends more now) one (one .state) (finished (g .times)) in
-      rw (eq-eqb sent (s .receive .next .0) e, right is) (record { answers = answers-accepting true ps two accepted; ring = let-out′ .ring ∙ sym (ending-times more now (become f g)) })
+      rw (eq-eqb sent (s .receive .next .0) e, right is) (record { answers = answers-ending true more now ps one (one .state) finished accepted; ring = let-out′ .ring ∙ sym (ending-times more now (become f g)) })
 
 -- ---- U frames
 

@@ -125,7 +125,7 @@ pub letOut-appends : (now : ℕ) (pool : List ℕ) → Appends (letOut now pool)
 unfolding letOut handOut
 letOut-appends now pool g = refl
 
-pub ending-appends : (more : Bool) (now : ℕ) → Appends (ending more now)
+ending-appends : (more : Bool) (now : ℕ) → Appends (ending more now)
 unfolding ending confirm
 ending-appends more now g = go (due (g .state) more)
   where
@@ -142,6 +142,13 @@ pub answers-accepting : (came : Bool) (pool : List ℕ) {g : Making} {out out₁
     → Makes g 0 out m out₁ → r ≡ doneStep (m .state) (m .end) came → Answers (accepting came pool g) out r out₁
 unfolding accepting stepOf answerOf doneStep
 answers-accepting came pool one e = record { step = rw (e, one .state, one .end, zero-add); octets = one .octets }
+
+-- the end of an accepted call: the clock and the rule of confirming, then the answer
+pub answers-ending : (came more : Bool) (now : ℕ) (pool : List ℕ) {g : Making} {out out₁ out₂ : List ℕ} {m ended : Made} {s : State} {r : Step}
+    → Makes g 0 out m out₁ → s ≡ g .state → ((ts : List ℕ) → Makes (ending more now (start s ts)) (m .end) out₁ ended out₂)
+    → r ≡ doneStep (ended .state) (ended .end) came → Answers (accepting came pool (ending more now g)) out r out₂
+answers-ending came more now pool {g} one same finished e =
+    answers-accepting came pool (makes-then (ending-appends more now) one same (finished (g .times))) e
 
 pub answers-closing : (k : ℕ) (s : State) (ts pool out : List ℕ) {r : Step}
     → eqb k 0 ≡ false → r ≡ refusedStep (shut k s) k → Answers (closing k s ts pool) out r out
