@@ -11,6 +11,7 @@ use borrow.Author.Tests.{leb-true, leb-false, lt-ltb, ltb-true, eq-eqb}
 use Rattle.laws.specs.Choice.{pick}
 use Rattle.laws.specs.Lists.{Octets, tabulate, ring}
 use Rattle.laws.specs.Numbers.{leOf}
+use Rattle.laws.proofs.Choices.{picked}
 use Rattle.laws.proofs.Lists.{octets-drop}
 use Rattle.laws.proofs.Numbers.{le-fits}
 use Rattle.elements.specs.Refusals.{refusal, iWithoutAsdu, badUControl, badSControl, badIControl, queueFull, notPlainForm, wrongReceiveNumber, wrongSendNumber, uNotAnswered, tooManyTests}
@@ -35,24 +36,20 @@ use Rattle.link.specs.Events.{Outcome, refusing, closing, accepting, start, sFr
 use Rattle.link_meaning.specs.Abstract.{Abstract, Progress, Result, freedBy, fits, count, queue, timing, t1uFrom, t2From, t3From, testAnswered, begin, change, letting, finish, accept, refuse, close, stepS, stepI, stopLink, stepU, stepFrame, stepPlain, stepSend, stepStop, manyOpen, stepTest, oldestDue, tickNumber, tickT2, tickT3, stepTick, fresh, step}
 use Rattle.link_meaning.specs.Meaning.{timesOf, waitingOf, Means, Same, OctetsIn, OpensFresh, StepsAlike}
 use Rattle.link_meaning.proofs.Good.{Good, sound-good, good-received}
-use Rattle.link_meaning.proofs.Sizes.{plain-sized}
+use Rattle.asdu.proofs.Passed.{plain-sized}
 use Rattle.link_meaning.proofs.Pieces.{Alike, means-received, means-timing, means-clock, means-shut, means-queued, means-count, means-open, means-acknowledged, alike-add, alike-hand, alike-release, alike-confirm, alike-timing, alike-tested, alike-finish}
 
 -- ---- frames that are read
 
 -- a receive number, if any, of 15 bits
-abbrev numberIn : FrameAnswer → ℕ
+abbrev pub numberIn : FrameAnswer → ℕ
 numberIn (FrameAnswer.I s r) = r .0
 numberIn (FrameAnswer.S r) = r .0
 numberIn (FrameAnswer.U u) = 0
 numberIn (FrameAnswer.Refused r) = 0
 
-record Small (a : FrameAnswer) : Type 0 where
-  low : numberIn a ≤ 32767
-
-small-pick : (b : Bool) {x y : FrameAnswer} → Small x → Small y → Small (pick b x y)
-small-pick true p q = p
-small-pick false p q = q
+pub record Small (a : FrameAnswer) : Type 0 where
+  pub low : numberIn a ≤ 32767
 
 small-u : (u : UFrame) → Small (FrameAnswer.U u)
 small-u u = record { low = omega arith }
@@ -69,16 +66,16 @@ small-s f o = record { low = small-number f o }
 small-i : (f : List ℕ) → Octets f → Small (FrameAnswer.I (sendNumber (numberAt 2 f)) (receiveNumber (numberAt 4 f)))
 small-i f o = record { low = small-number f o }
 
-read-small : (f : List ℕ) → Octets f → Small (frameAnswer f)
+pub read-small : (f : List ℕ) → Octets f → Small (frameAnswer f)
 unfolding frameAnswer shortAnswer longAnswer
 read-small f o =
-    small-pick (eqb (outerRefusal f) 0)
-    (small-pick (eqb (getD f 1 0) 4)
-    (small-pick (eqb (getD f 2 0 % 4) 3)
-    (small-pick (eqb (getD f 3 0) 0 && eqb (leOf 2 (drop 4 f)) 0) (small-u (uOf (getD f 2 0))) (small-refused badUControl))
-    (small-pick (eqb (getD f 2 0 % 4) 1) (small-pick (eqb (leOf 2 (drop 2 f)) 1) (small-s f o) (small-refused badSControl)) (small-refused iWithoutAsdu)))
-    (small-pick (eqb (getD f 2 0 % 2) 0 && eqb (getD f 4 0 % 2) 0)
-    (small-pick (eqb (readRefusal (drop 6 f)) 0) (small-i f o) (small-refused (readRefusal (drop 6 f)))) (small-refused badIControl)))
+    picked Small (eqb (outerRefusal f) 0)
+    (picked Small (eqb (getD f 1 0) 4)
+    (picked Small (eqb (getD f 2 0 % 4) 3)
+    (picked Small (eqb (getD f 3 0) 0 && eqb (leOf 2 (drop 4 f)) 0) (small-u (uOf (getD f 2 0))) (small-refused badUControl))
+    (picked Small (eqb (getD f 2 0 % 4) 1) (picked Small (eqb (leOf 2 (drop 2 f)) 1) (small-s f o) (small-refused badSControl)) (small-refused iWithoutAsdu)))
+    (picked Small (eqb (getD f 2 0 % 2) 0 && eqb (getD f 4 0 % 2) 0)
+    (picked Small (eqb (readRefusal (drop 6 f)) 0) (small-i f o) (small-refused (readRefusal (drop 6 f)))) (small-refused badIControl)))
     (small-refused (outerRefusal f))
 
 -- ---- choices by the same test

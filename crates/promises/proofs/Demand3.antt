@@ -13,13 +13,12 @@ use Rattle.laws.specs.Choice.{pick}
 use Rattle.laws.specs.Lists.{Octets, ring}
 use Rattle.laws.specs.Window.{Confirms, freed}
 use Rattle.laws.specs.Promises.{WindowLaw}
-use Rattle.laws.proofs.Lists.{octets-drop, sets-all, getD-tabulate}
-use Rattle.laws.proofs.Numbers.{le-fits}
+use Rattle.laws.proofs.Lists.{sets-all, getD-tabulate}
 use Rattle.laws.proofs.Window.{window}
 use Rattle.elements.specs.Refusals.{refusal}
-use Rattle.apdu.specs.Control.{numberAt}
 use Rattle.apdu.specs.Reading.{frameAnswer, asduPart}
 use Rattle.apdu.specs.declared.frame.FrameAnswer.{FrameAnswer}
+use Rattle.apdu.specs.declared.frame.FrameAnswer.the-variants as FrameAnswer
 use Rattle.assembly.specs.Streams.{rest, Outcome, stream}
 use Rattle.link_state.specs.Limits.{callRefusal}
 use Rattle.link_state.specs.declared.Settings.{Settings}
@@ -32,34 +31,28 @@ use Rattle.link.specs.Events as events
 use Rattle.link.specs.Contracts.{answerOf, calledOf, linkNumber, linkWritten}
 use Rattle.link.specs.declared.answers.LinkAnswer.{LinkAnswer}
 use Rattle.link.specs.declared.answers.LinkAnswer.the-variants as LinkAnswer
+use Rattle.link.proofs.Wires.{wire-append}
 use Rattle.link_meaning.specs.Abstract.{Abstract, Result, fresh, step}
 use Rattle.link_meaning.specs.Meaning.{OctetsIn, waitingOf, timesOf, Same}
 use Rattle.link_meaning.specs.Runs.{Agrees}
 use Rattle.link_meaning.specs.Runs as totals
-use Rattle.link_meaning.proofs.Meaning.{steps-alike}
+use Rattle.link_meaning.proofs.Meaning.{steps-alike, numberIn, read-small}
 use Rattle.link_meaning.proofs.Runs.{runs-agree}
 use Rattle.promises.specs.Demand3.{Call, outcomeOf, answered, poolAfter, Entry, entryOf, Run, opening, after, cut, iFramesIn, iFrames, allHanded, S, sendTimes, asdusIn, haveLeft, Brought, framed, brings, confirmedBy, R, A, takenBy, taken, Numbered, Claim, Demand3}
-use Rattle.promises.proofs.FrameAgain.{Shape, i-shape, s-shape, u-shape, refused-shape, shape}
 use Rattle.promises.proofs.Demand3Pool.{pool-is}
-use Rattle.promises.proofs.Demand3Wire.{AllFit, allOf, each, sentIn, stream-wire, all-fit, asdus-out, numbers-out, fit-append, each-append, kept-append, wire-append}
+use Rattle.promises.proofs.Demand3Wire.{AllFit, allOf, each, sentIn, stream-wire, all-fit, asdus-out, numbers-out, fit-append, each-append, kept-append}
 use Rattle.promises.proofs.Demand3Steps.{AllPlain, Exact, Stepped, numberOf, stepped}
 
 -- ---- what a frame brings
 
-number-low : (f : List ℕ) → Octets f → numberAt 4 f ≤ 32767
-number-low f o = let h = le-fits 2 (drop 4 f) (octets-drop 4 f o) in omega arith
-
 frame-low : (f : List ℕ) → Octets f → numberOf (framed (frameAnswer f)) ≤ 32767
-frame-low f o = by (shape f)
+frame-low f o = by (frameAnswer f) (read-small f o .low)
   where
-    at-most : {a : FrameAnswer} → frameAnswer f ≡ a → numberOf (framed a) ≤ 32767 → numberOf (framed (frameAnswer f)) ≤ 32767
-    at-most e h = rw e h
-
-    by : Shape f → numberOf (framed (frameAnswer f)) ≤ 32767
-    by (i-shape c e) = at-most e (number-low f o)
-    by (s-shape c e) = at-most e (number-low f o)
-    by (u-shape c e) = at-most e (omega arith)
-    by (refused-shape r n e) = at-most e (omega arith)
+    by : (a : FrameAnswer) → numberIn a ≤ 32767 → numberOf (framed a) ≤ 32767
+    by (FrameAnswer.I n r) h = h
+    by (FrameAnswer.S r) h = h
+    by (FrameAnswer.U u) h = h
+    by (FrameAnswer.Refused r) h = h
 
 brings-low : (e : Event) → OctetsIn e → numberOf (brings e) ≤ 32767
 brings-low (frame f more) o = frame-low f o

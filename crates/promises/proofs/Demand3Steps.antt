@@ -1,25 +1,24 @@
 -- What an event does to the link by totals and lists, as a transcript counts it. Assumes nothing.
-use Prim.Native.Nat.{ℕ, _+_, _*_, _%_, _<_, _≤_}
+use Prim.Native.Nat.{ℕ, _+_, _*_, _%_, _≤_}
 use mathlib.Core.Path.{_≡_, refl, sym, ap, _∙_}
 use mathlib.Core.Bool.{Bool, true, false}
 use mathlib.Core.List.{List, [], _∷_, _++_, append-assoc, append-nil}
 use mathlib.Core.Logic.{_↔_}
 use native.Mathlib.Omega.{arith}
 use native.Mathlib.Nat.{add-zero, le-refl}
-use borrow.Author.Tests.{eqb-true, eqb-false, leb-true, le-leb, ltb-true, ne-eqb}
+use borrow.Author.Tests.{eqb-true, eqb-false, leb-true, le-leb, ne-eqb}
 use lib.ListN.{length, drop, replicate, length-append, replicate-append-replicate}
 use lib.Dec.{eqb, leb}
 use Rattle.laws.specs.Choice.{pick}
 use Rattle.laws.specs.Window.{Confirms}
 use Rattle.laws.specs.Promises.{WindowLaw}
+use Rattle.laws.proofs.Choices.{picked, pick-same}
 use Rattle.laws.proofs.Window.{window}
-use Rattle.elements.specs.Refusals.{refusal, wrongReceiveNumber, wrongSendNumber, uNotAnswered, tooManyTests, queueFull, notPlainForm}
-use Rattle.elements.specs.declared.refusals.Refusal.{Refusal}
-use Rattle.asdu.specs.Header.{headerAnswer}
-use Rattle.asdu.specs.Reading.{readRefusal}
-use Rattle.asdu.specs.Plain.{plainBy, plainAnswer}
+use Rattle.elements.specs.Refusals.{wrongReceiveNumber, wrongSendNumber, uNotAnswered, tooManyTests, queueFull, notPlainForm}
+use Rattle.asdu.specs.Plain.{plainAnswer}
 use Rattle.asdu.specs.declared.PlainAnswer.{PlainAnswer}
 use Rattle.asdu.specs.declared.PlainAnswer.the-variants as PlainAnswer
+use Rattle.asdu.proofs.Passed.{plain-refused}
 use Rattle.apdu.specs.Control.{uOctet}
 use Rattle.apdu.specs.Reading.{frameAnswer}
 use Rattle.apdu.specs.declared.frame.UFrame.{UFrame}
@@ -29,10 +28,12 @@ use Rattle.link_state.specs.declared.Settings.{Settings}
 use Rattle.link_state.specs.declared.Timers.{Timers}
 use Rattle.link.specs.Frames.{Frame, iFrame, sFrame, uFrame, octetsOf, wire, stopAct, stopCon, testAct, testCon}
 use Rattle.link.specs.Events.{Event, frame, send, stop, test, tick, isDue}
-use Rattle.link_meaning.specs.Abstract.{Abstract, Progress, Result, onWire, outstanding, isOpen, freedBy, fits, free, count, sendOne, queue, timing, t1uFrom, t2From, t3From, testFrom, testAnswered, setClock, settle, ended, begin, change, add, sendOut, flush, letting, confirmAll, testOut, mustConfirm, finish, accept, refuse, close, stepS, stepI, stopLink, stepU, stepFrame, stepPlain, stepSend, stepStop, manyOpen, stepTest, tickNumber, tickT2, tickT3, stepTick, step}
+use Rattle.link.proofs.Wires.{wire-append}
+use Rattle.link_meaning.specs.Abstract.{Abstract, Progress, Result, onWire, isOpen, freedBy, fits, free, count, sendOne, queue, timing, t1uFrom, t2From, t3From, testFrom, testAnswered, setClock, settle, ended, begin, change, add, sendOut, flush, letting, confirmAll, testOut, mustConfirm, finish, accept, refuse, close, stepS, stepI, stopLink, stepU, stepFrame, stepPlain, stepSend, stepStop, manyOpen, stepTest, tickNumber, tickT2, tickT3, stepTick, step}
 use Rattle.link_meaning.specs.Runs.{Within}
+use Rattle.link_meaning.proofs.Effects.{alone}
 use Rattle.promises.specs.Demand3.{Brought, anI, anS, anAsdu, other, framed, brings, receivedBy, confirmedBy, takenBy}
-use Rattle.promises.proofs.Demand3Wire.{Carrying, sentIn, carry-append, sent-append, wire-append, s-six, u-six, i-most}
+use Rattle.promises.proofs.Demand3Wire.{Carrying, sentIn, carry-append, sent-append, s-six, u-six, i-most}
 
 -- ---- what has gone out so far
 
@@ -159,16 +160,11 @@ module _ (a : Abstract) (now : ℕ) where
   unfolding testOut
   went-test p w = went-timing (testFrom now) _ (went-u _ p w)
 
-  -- by a test, with a bound for both
-  went-pick : {n : ℕ} (b : Bool) {p q : Progress} → Went n a now p → Went n a now q → Went n a now (pick b p q)
-  went-pick true v w = v
-  went-pick false v w = w
-
   went-finish : {n : ℕ} (more : Bool) (p : Progress) → Went n a now p → Went (n + 6) a now (finish more now p)
   unfolding finish
   went-finish more p w =
       let c = went-quiet p (setClock now (p .link)) refl w in
-      went-pick (mustConfirm (p .link) more) (went-confirm _ c) (went-more (omega arith) c)
+      picked (Went _ a now) (mustConfirm (p .link) more) (went-confirm _ c) (went-more (omega arith) c)
 
   -- ---- I frames
 
@@ -199,7 +195,7 @@ module _ (a : Abstract) (now : ℕ) where
   unfolding flush
   went-flush n m [] p h e plain w = went-more (omega arith) w
   went-flush n m (x ∷ xs) p h e plain w =
-      went-pick (isOpen (p .link))
+      picked (Went _ a now) (isOpen (p .link))
       (went-flush (n + 255) m xs (sendOut now x xs p) (omega arith) (unfold sendOut sendOne in refl) (plain .1) (went-out x xs p e (plain .0) w))
       (went-more (omega arith) w)
 
@@ -239,10 +235,6 @@ numberOf (anS r) = r
 numberOf (anAsdu x) = 0
 numberOf other = 0
 
-same : {X : Type 0} (b : Bool) (x : X) → x ≡ pick b x x
-same true x = refl
-same false x = refl
-
 module _ (now : ℕ) (a : Abstract) (within : Within a) (few : length (a .waiting) ≤ 16) (plain : AllPlain (a .waiting)) where
   -- a call that brings nothing that is counted
   stepped-other : (r : Result) → Went 4096 a now (outOf r) → ((r .refused ≡ 0 → ⊥) → r .frames ≡ []) → Stepped other now a r
@@ -252,12 +244,12 @@ module _ (now : ℕ) (a : Abstract) (within : Within a) (few : length (a .waitin
         steps = 0;
         settings = refl;
         sent = refl;
-        received = same (eqb (r .refused) 0) (a .received);
-        confirmed = same (eqb (r .refused) 0) (a .confirmed);
+        received = sym (pick-same (eqb (r .refused) 0) (a .received));
+        confirmed = sym (pick-same (eqb (r .refused) 0) (a .confirmed));
         counted = sym (add-zero (a .confirmed));
         upto = within .confirmed;
         times = refl;
-        waiting = sym (append-nil (a .waiting)) ∙ ap (λ (l : List (List ℕ)). a .waiting ++ l) (same (eqb (r .refused) 0) []);
+        waiting = sym (append-nil (a .waiting)) ∙ ap (λ (l : List (List ℕ)). a .waiting ++ l) (sym (pick-same (eqb (r .refused) 0) []));
         plain = plain;
         went = w;
         silent = silent;
@@ -425,21 +417,12 @@ module _ (now : ℕ) (a : Abstract) (within : Within a) (few : length (a .waitin
   stepped-tick =
       by-test (eqb (tickNumber now a) 0)
       (λ t.
-      let second = went-pick a now (isDue (a .timers .t2) now) (went-confirm a now (begin a) (went-begin a now)) (went-more a now (omega arith) (went-begin a now)) in
-      let third = went-pick a now (isDue (a .timers .t3) now) (went-test a now _ second) (went-more a now (omega arith) second) in
+      let second = picked (Went _ a now) (isDue (a .timers .t2) now) (went-confirm a now (begin a) (went-begin a now)) (went-more a now (omega arith) (went-begin a now)) in
+      let third = picked (Went _ a now) (isDue (a .timers .t3) now) (went-test a now _ second) (went-more a now (omega arith) second) in
       accepted-other false _ (omega arith) (went-finish a now false _ third))
       (λ t. closed-other (tickNumber now a))
 
   -- ---- send
-
-  -- with the window open none waits
-  none-waits : isOpen a ≡ true → a .waiting ≡ []
-  unfolding isOpen
-  none-waits t = nothing (a .waiting) (λ some. let f = within .only-full some in let l = ltb-true (outstanding a) (a .settings .k) t in omega arith)
-    where
-      nothing : (xs : List (List ℕ)) → (0 < length xs → ⊥) → xs ≡ []
-      nothing [] h = refl
-      nothing (x ∷ xs) h = absurd (h (omega arith))
 
   plain-last : (xs : List (List ℕ)) (x : List ℕ) → AllPlain xs → plainAnswer x ≡ PlainAnswer.Plain → AllPlain (xs ++ (x ∷ []))
   plain-last [] x h p = (p, tt)
@@ -470,7 +453,7 @@ module _ (now : ℕ) (a : Abstract) (within : Within a) (few : length (a .waitin
   unfolding stepPlain
   stepped-plain x e =
       by-test (isOpen a)
-      (λ t. taken-plain x _ e (omega arith) (went-finish (queue x a) now false _ (at-once (none-waits t))))
+      (λ t. taken-plain x _ e (omega arith) (went-finish (queue x a) now false _ (at-once (alone now a within t))))
       (λ t.
       by-test (leb (a .settings .p) (length (a .waiting)))
       (λ u. refused x queueFull (λ z. omega arith))
@@ -483,13 +466,7 @@ module _ (now : ℕ) (a : Abstract) (within : Within a) (few : length (a .waitin
   unfolding stepSend
   stepped-send x PlainAnswer.Plain e = stepped-plain x e
   stepped-send x PlainAnswer.Reserved e = refused x notPlainForm (λ z. omega arith)
-  stepped-send x (PlainAnswer.Refused r) e = refused x (r .0) (told (eqb (readRefusal x) 0) (plainBy (headerAnswer x) x) refl (unfold plainAnswer in e))
-    where
-      told : (b c : Bool) → eqb (readRefusal x) 0 ≡ b
-          → pick b (pick c PlainAnswer.Plain PlainAnswer.Reserved) (PlainAnswer.Refused (refusal (readRefusal x))) ≡ PlainAnswer.Refused r → r .0 ≡ 0 → ⊥
-      told true true g h z = let w : _≡_ {A = ℕ} 0 1 = cc in omega arith
-      told true false g h z = let w : _≡_ {A = ℕ} 0 1 = cc in omega arith
-      told false c g h z = let w : refusal (readRefusal x) ≡ r = cc in eqb-false _ _ g (ap (λ (q : Refusal). q .0) w ∙ z)
+  stepped-send x (PlainAnswer.Refused r) e = refused x (r .0) (eqb-false _ _ (plain-refused x r e))
 
   -- ---- any call
 

@@ -8,8 +8,7 @@ use borrow.Author.Tests.{le-ltb}
 use lib.ListN.{length, length-append}
 use lib.Seq.{take-at, drop-at}
 use Rattle.laws.specs.Numbers.{leOctets}
-use Rattle.asdu.specs.Reading.{readRefusal}
-use Rattle.asdu.specs.Plain.{plainAnswer, plainNumber}
+use Rattle.asdu.specs.Plain.{plainAnswer}
 use Rattle.asdu.specs.declared.PlainAnswer.the-variants as PlainAnswer
 use Rattle.apdu.specs.Control.{sendNumber, receiveNumber}
 use Rattle.apdu.specs.Reading.{frameAnswer, asduPart}
@@ -24,9 +23,8 @@ use Rattle.assembly.specs.declared.start.StartAnswer.{StartAnswer}
 use Rattle.assembly.specs.declared.start.StartAnswer.the-variants.{Whole}
 use Rattle.assembly.proofs.Sights.{enough-whole, longer-whole}
 use Rattle.link.specs.Frames.{Frame, iFrame, sFrame, uFrame, octetsOf, wire}
-use Rattle.link_meaning.proofs.Sizes.{plain-sized}
+use Rattle.asdu.proofs.Passed.{plain-reads, plain-sized}
 use Rattle.promises.specs.Demand3.{keepI, iFramesIn, asdusIn, Numbered}
-use Rattle.promises.proofs.Answered.{answers}
 use Rattle.promises.proofs.FrameBack.{i-reads, part-is, s-reads, frame-reads-back}
 
 -- ---- one frame
@@ -41,9 +39,6 @@ abbrev readAs : Frame → FrameAnswer
 readAs (iFrame s r x) = FrameAnswer.I (sendNumber s) (receiveNumber r)
 readAs (sFrame r) = FrameAnswer.S (receiveNumber r)
 readAs (uFrame u) = FrameAnswer.U u
-
-plain-reads : (x : List ℕ) → plainAnswer x ≡ PlainAnswer.Plain → readRefusal x ≡ 0
-plain-reads x e = sym (answers .telling x) ∙ ap plainNumber e
 
 reads : (f : Frame) → Fit f → frameAnswer (octetsOf f) ≡ readAs f
 unfolding octetsOf
@@ -187,8 +182,3 @@ sent-append [] gs = refl
 sent-append (iFrame n m x ∷ fs) gs = ap (λ (l : List (List ℕ)). x ∷ l) (sent-append fs gs)
 sent-append (sFrame m ∷ fs) gs = sent-append fs gs
 sent-append (uFrame u ∷ fs) gs = sent-append fs gs
-
-pub wire-append : (fs gs : List Frame) → wire (fs ++ gs) ≡ wire fs ++ wire gs
-unfolding wire
-wire-append [] gs = refl
-wire-append (f ∷ fs) gs = ap (λ (l : List ℕ). octetsOf f ++ l) (wire-append fs gs) ∙ sym (append-assoc (octetsOf f) (wire fs) (wire gs))
