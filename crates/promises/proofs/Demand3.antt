@@ -19,6 +19,7 @@ use Rattle.elements.specs.Refusals.{refusal}
 use Rattle.apdu.specs.Reading.{frameAnswer, asduPart}
 use Rattle.apdu.specs.declared.frame.FrameAnswer.{FrameAnswer}
 use Rattle.apdu.specs.declared.frame.FrameAnswer.the-variants as FrameAnswer
+use Rattle.apdu.proofs.Shapes.{numberIn, number-low}
 use Rattle.assembly.specs.Streams.{rest, Outcome, stream}
 use Rattle.link_state.specs.Limits.{callRefusal}
 use Rattle.link_state.specs.declared.Settings.{Settings}
@@ -36,7 +37,7 @@ use Rattle.link_meaning.specs.Abstract.{Abstract, Result, fresh, step}
 use Rattle.link_meaning.specs.Meaning.{OctetsIn, waitingOf, timesOf, Same}
 use Rattle.link_meaning.specs.Runs.{Agrees}
 use Rattle.link_meaning.specs.Runs as totals
-use Rattle.link_meaning.proofs.Meaning.{steps-alike, numberIn, read-small}
+use Rattle.link_meaning.proofs.Meaning.{steps-alike}
 use Rattle.link_meaning.proofs.Runs.{runs-agree}
 use Rattle.promises.specs.Demand3.{Call, outcomeOf, answered, poolAfter, Entry, entryOf, Run, opening, after, cut, iFramesIn, iFrames, allHanded, S, sendTimes, asdusIn, haveLeft, Brought, framed, brings, confirmedBy, R, A, takenBy, taken, Numbered, Claim, Demand3}
 use Rattle.promises.proofs.Demand3Pool.{pool-is}
@@ -46,7 +47,7 @@ use Rattle.promises.proofs.Demand3Steps.{AllPlain, Exact, Stepped, numb
 -- ---- what a frame brings
 
 frame-low : (f : List ℕ) → Octets f → numberOf (framed (frameAnswer f)) ≤ 32767
-frame-low f o = by (frameAnswer f) (read-small f o .low)
+frame-low f o = by (frameAnswer f) (number-low f o)
   where
     by : (a : FrameAnswer) → numberIn a ≤ 32767 → numberOf (framed a) ≤ 32767
     by (FrameAnswer.I n r) h = h
