@@ -97,11 +97,8 @@ module _ (a : Abstract) (now d c : ℕ) where
   unfolding flush
   grows-flush ws [] p e g = g
   grows-flush ws (x ∷ xs) p e g =
-      by (isOpen (p .link)) (grows-flush ws xs (sendOut now x xs p) (unfold sendOut sendOne in refl) (grows-send ws ws x xs p (ap (λ (l : List (List ℕ)). asdusOf (p .frames) ++ l) (sym e) ∙ g .order) g))
-    where
-      by : (b : Bool) → Grows a now d c ws (flush now xs (sendOut now x xs p)) → Grows a now d c ws (pick b (flush now xs (sendOut now x xs p)) p)
-      by true h = h
-      by false h = g
+      picked (Grows a now d c ws) (isOpen (p .link))
+      (grows-flush ws xs (sendOut now x xs p) (unfold sendOut sendOne in refl) (grows-send ws ws x xs p (ap (λ (l : List (List ℕ)). asdusOf (p .frames) ++ l) (sym e) ∙ g .order) g)) g
 
   -- the link changes in none of these
   grows-change : (ws : List (List ℕ)) (p : Progress) (b : Abstract) → b .sent ≡ p .link .sent → b .received ≡ p .link .received → b .confirmed ≡ p .link .confirmed
@@ -140,11 +137,7 @@ module _ (a : Abstract) (now d c : ℕ) where
 
   grows-finish : (ws : List (List ℕ)) (more : Bool) (p : Progress) → Grows a now d c ws p → Grows a now d c ws (finish more now p)
   unfolding finish
-  grows-finish ws more p g = by (mustConfirm (p .link) more)
-    where
-      by : (b : Bool) → Grows a now d c ws (pick b (confirmAll (change (setClock now) p)) (change (setClock now) p))
-      by true = grows-confirm ws _ (grows-clock ws p g)
-      by false = grows-clock ws p g
+  grows-finish ws more p g = let h = grows-clock ws p g in picked (Grows a now d c ws) (mustConfirm (p .link) more) (grows-confirm ws _ h) h
 
 -- ---- ends of a call
 
