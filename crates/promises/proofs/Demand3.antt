@@ -42,7 +42,7 @@ use Rattle.link_meaning.proofs.Runs.{runs-agree}
 use Rattle.promises.specs.Demand3.{Call, outcomeOf, answered, poolAfter, Entry, entryOf, Run, opening, after, cut, iFramesIn, iFrames, allHanded, S, sendTimes, asdusIn, haveLeft, Brought, framed, brings, confirmedBy, R, A, takenBy, taken, Numbered, Claim, Demand3}
 use Rattle.promises.proofs.Demand3Pool.{pool-is}
 use Rattle.promises.proofs.Demand3Wire.{AllFit, allOf, each, sentIn, stream-wire, all-fit, asdus-out, numbers-out, fit-append, each-append, kept-append}
-use Rattle.promises.proofs.Demand3Steps.{AllPlain, Exact, Stepped, numberOf, stepped}
+use Rattle.promises.proofs.Demand3Steps.{AllPlain, Exact, Stepped, numberOf, stepped, exactly}
 
 -- ---- what a frame brings
 
@@ -313,7 +313,7 @@ module _ (s : Settings) (start : ℕ) (pool : List ℕ) (past : List Entry) (l :
   alike = steps-alike (c .event) l between (length (c .output)) (c .now) (k .link) (agrees .shaped) o free (agrees .means)
 
   done : Stepped (brings (c .event)) (c .now) (k .link) result
-  done = stepped (c .now) (k .link) (agrees .within) few (k .counted .plain) (c .event) (brings-low (c .event) o)
+  done = stepped (c .now) (k .link) (agrees .within) few (k .counted .plain) (c .event)
 
   entry-number : entryOf c l between .number ≡ result .refused
   unfolding calledOf
@@ -358,7 +358,7 @@ module _ (s : Settings) (start : ℕ) (pool : List ℕ) (past : List Entry) (l :
   still = runs-agree s start pool l′ pool′ (next .link) (next .run)
 
   exact : Exact (brings (c .event)) (e .number) (S past) (A past) (R past)
-  exact = let d = k .counted in rw (entry-number, ← d .sent, ← d .confirmed, ← d .received) (done .exact)
+  exact = let d = k .counted in rw (entry-number, ← d .sent, ← d .confirmed, ← d .received) (exactly (c .now) (k .link) (agrees .within) (c .event) (brings-low (c .event) o))
 
   single : (r b : ℕ) → Confirms 32768 (A past) (S past) r b → b ≡ A past + freed 32768 (A past) r
   single = is-next s past l between (k .link) agrees (k .counted)

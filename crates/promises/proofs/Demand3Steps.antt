@@ -6,14 +6,12 @@ use mathlib.Core.List.{List, [], _∷_, _++_, append-assoc, append-nil}
 use mathlib.Core.Logic.{_↔_}
 use native.Mathlib.Omega.{arith}
 use native.Mathlib.Nat.{add-zero, le-refl}
-use borrow.Author.Tests.{eqb-true, eqb-false, leb-true, le-leb, ne-eqb}
+use borrow.Author.Tests.{eqb-false, leb-true, ne-eqb}
 use lib.ListN.{length, drop, replicate, length-append, replicate-append-replicate}
 use lib.Dec.{eqb, leb}
 use Rattle.laws.specs.Choice.{pick}
 use Rattle.laws.specs.Window.{Confirms}
-use Rattle.laws.specs.Promises.{WindowLaw}
 use Rattle.laws.proofs.Choices.{picked, pick-same}
-use Rattle.laws.proofs.Window.{window}
 use Rattle.elements.specs.Refusals.{wrongReceiveNumber, wrongSendNumber, uNotAnswered, tooManyTests, queueFull, notPlainForm}
 use Rattle.asdu.specs.Plain.{plainAnswer}
 use Rattle.asdu.specs.declared.PlainAnswer.{PlainAnswer}
@@ -31,7 +29,7 @@ use Rattle.link.specs.Events.{Event, frame, send, stop, test, tick, isDue}
 use Rattle.link.proofs.Wires.{wire-append}
 use Rattle.link_meaning.specs.Abstract.{Abstract, Progress, Result, onWire, isOpen, freedBy, fits, free, count, sendOne, queue, timing, t1uFrom, t2From, t3From, testFrom, testAnswered, setClock, settle, ended, begin, change, add, sendOut, flush, letting, confirmAll, testOut, mustConfirm, finish, accept, refuse, close, stepS, stepI, stopLink, stepU, stepFrame, stepPlain, stepSend, stepStop, manyOpen, stepTest, tickNumber, tickT2, tickT3, stepTick, step}
 use Rattle.link_meaning.specs.Runs.{Within}
-use Rattle.link_meaning.proofs.Effects.{alone}
+use Rattle.link_meaning.proofs.Effects.{alone, accepts-exactly}
 use Rattle.promises.specs.Demand3.{Brought, anI, anS, anAsdu, other, framed, brings, receivedBy, confirmedBy, takenBy}
 use Rattle.promises.proofs.Demand3Wire.{Carrying, sentIn, carry-append, sent-append, s-six, u-six, i-most}
 
@@ -201,13 +199,6 @@ module _ (a : Abstract) (now : ℕ) where
 
 -- ---- a call, as a transcript counts it
 
--- accepted exactly if, in totals
-abbrev pub Exact : Brought → ℕ → ℕ → ℕ → ℕ → Type 0
-Exact (anI n r) number s c t = (number ≡ 0) ↔ (((a : ℕ) × Confirms 32768 c s r a) × (n ≡ t % 32768))
-Exact (anS r) number s c t = (number ≡ 0) ↔ ((a : ℕ) × Confirms 32768 c s r a)
-Exact (anAsdu x) number s c t = Unit {0}
-Exact other number s c t = Unit {0}
-
 abbrev pub outOf : Result → Progress
 outOf r = record { link = r .link; frames = r .frames }
 
@@ -226,14 +217,6 @@ pub record Stepped (b : Brought) (now : ℕ) (a : Abstract) (r : Result) : Type 
   pub plain : AllPlain (base .waiting)
   pub went : Went 4096 base now (outOf r)
   pub silent : (r .refused ≡ 0 → ⊥) → r .frames ≡ []
-  pub exact : Exact b (r .refused) (a .sent) (a .confirmed) (a .received)
-
--- the receive number, if any
-abbrev pub numberOf : Brought → ℕ
-numberOf (anI n r) = r
-numberOf (anS r) = r
-numberOf (anAsdu x) = 0
-numberOf other = 0
 
 module _ (now : ℕ) (a : Abstract) (within : Within a) (few : length (a .waiting) ≤ 16) (plain : AllPlain (a .waiting)) where
   -- a call that brings nothing that is counted
@@ -253,13 +236,11 @@ module _ (now : ℕ) (a : Abstract) (within : Within a) (few : length (a .waitin
         plain = plain;
         went = w;
         silent = silent;
-        exact = tt;
       }
 
   -- one that is refused, and leaves what is counted
-  stepped-refused : (b : Brought) (r : Result) → (r .refused ≡ 0 → ⊥) → r .frames ≡ [] → counts (r .link) ≡ counts a
-      → Exact b (r .refused) (a .sent) (a .confirmed) (a .received) → Stepped b now a r
-  stepped-refused b r some none q exact =
+  stepped-refused : (b : Brought) (r : Result) → (r .refused ≡ 0 → ⊥) → r .frames ≡ [] → counts (r .link) ≡ counts a → Stepped b now a r
+  stepped-refused b r some none q =
       let z : eqb (r .refused) 0 ≡ false = ne-eqb (r .refused) 0 some in
       record {
         base = a;
@@ -275,16 +256,15 @@ module _ (now : ℕ) (a : Abstract) (within : Within a) (few : length (a .waitin
         plain = plain;
         went = rw none (went-more a now (omega arith) (went-quiet a now (begin a) (r .link) q (went-begin a now)));
         silent = λ h. none;
-        exact = exact;
       }
 
   accepted-other : {n : ℕ} (came : Bool) (p : Progress) → n ≤ 4096 → Went n a now p → Stepped other now a (accept came p)
   unfolding accept
   accepted-other came p h w = stepped-other (accept came p) (went-more a now h w) (λ z. absurd (z refl))
 
-  closed : (b : Brought) (n : ℕ) → (n ≡ 0 → ⊥) → Exact b n (a .sent) (a .confirmed) (a .received) → Stepped b now a (close n a)
+  closed : (b : Brought) (n : ℕ) → (n ≡ 0 → ⊥) → Stepped b now a (close n a)
   unfolding close
-  closed b n some exact = stepped-refused b (close n a) some refl (quiet-ended n a) exact
+  closed b n some = stepped-refused b (close n a) some refl (quiet-ended n a)
 
   closed-other : (n : ℕ) → Stepped other now a (close n a)
   unfolding close
@@ -293,28 +273,13 @@ module _ (now : ℕ) (a : Abstract) (within : Within a) (few : length (a .waitin
 
   refused : (x : List ℕ) (n : ℕ) → (n ≡ 0 → ⊥) → Stepped (anAsdu x) now a (refuse n a)
   unfolding refuse
-  refused x n some =
-      stepped-refused (anAsdu x) (refuse n a) some refl refl tt
+  refused x n some = stepped-refused (anAsdu x) (refuse n a) some refl refl
 
   by-test : {b : Brought} (t : Bool) {p q : Result} → (t ≡ true → Stepped b now a p) → (t ≡ false → Stepped b now a q) → Stepped b now a (pick t p q)
   by-test true f g = f refl
   by-test false f g = g refl
 
   -- ---- a receive number
-
-  law : (r : ℕ) → r ≤ 32767 → WindowLaw 32768 (a .confirmed) (a .sent) r
-  law r h = let w = within .window in let k = within .k-high in window 32768 (a .confirmed) (a .sent) r (within .confirmed) (omega arith) (omega arith)
-
-  fits-some : (r : ℕ) → r ≤ 32767 → fits r a ≡ true → (c : ℕ) × Confirms 32768 (a .confirmed) (a .sent) r c
-  unfolding fits
-  fits-some r h e = (a .confirmed + freedBy r a, law r h .some (leb-true _ _ e))
-
-  some-fits : (r : ℕ) → r ≤ 32767 → (c : ℕ) × Confirms 32768 (a .confirmed) (a .sent) r c → fits r a ≡ true
-  unfolding fits
-  some-fits r h k = let e = law r h .one (k .0) (k .1) in let m = k .1 .most in le-leb (a .confirmed + freedBy r a) (a .sent) (omega arith)
-
-  not-fitting : (r : ℕ) → r ≤ 32767 → fits r a ≡ false → (c : ℕ) × Confirms 32768 (a .confirmed) (a .sent) r c → ⊥
-  not-fitting r h e k = let z : _≡_ {A = ℕ} 0 1 = (let q = some-fits r h k in cc) in omega arith
 
   upto-fits : (r : ℕ) → fits r a ≡ true → a .confirmed + freedBy r a ≤ a .sent
   unfolding fits
@@ -328,10 +293,10 @@ module _ (now : ℕ) (a : Abstract) (within : Within a) (few : length (a .waitin
   -- an accepted number: x is the link with the frame counted
   stepped-number : (b : Brought) (r : ℕ) (x : Abstract) (came : Bool) (p : Progress)
       → counts x ≡ record { settings = a .settings; sent = a .sent; received = receivedBy b (a .received); confirmed = a .confirmed; times = a .times; waiting = a .waiting }
-      → confirmedBy b (a .confirmed) ≡ a .confirmed + freedBy r a → takenBy b ≡ [] → fits r a ≡ true → Exact b 0 (a .sent) (a .confirmed) (a .received)
+      → confirmedBy b (a .confirmed) ≡ a .confirmed + freedBy r a → takenBy b ≡ [] → fits r a ≡ true
       → Went 4086 (free (freedBy r a) x) now p → Stepped b now a (accept came p)
   unfolding accept free
-  stepped-number b r x came p e number none f exact w =
+  stepped-number b r x came p e number none f w =
       let confirmed = ap (λ (c : Counts). c .confirmed + freedBy r a) e in
       let waiting = ap (λ (c : Counts). c .waiting) e in
       record {
@@ -348,31 +313,30 @@ module _ (now : ℕ) (a : Abstract) (within : Within a) (few : length (a .waitin
         plain = rw waiting plain;
         went = went-more (free (freedBy r a) x) now (omega arith) w;
         silent = λ z. absurd (z refl);
-        exact = exact;
       }
 
-  stepped-s : (r : ℕ) (more : Bool) → r ≤ 32767 → Stepped (anS r) now a (stepS r more now a)
+  stepped-s : (r : ℕ) (more : Bool) → Stepped (anS r) now a (stepS r more now a)
   unfolding stepS
-  stepped-s r more h =
+  stepped-s r more =
       let out = free (freedBy r a) a in
       by-test (fits r a)
       (λ e.
-      stepped-number (anS r) r a false _ refl refl refl e ((λ q. fits-some r h e), (λ q. refl))
+      stepped-number (anS r) r a false _ refl refl refl e
       (went-finish out now more _ (went-timing out now (t3From now) _ (let-out (freedBy r a) a few plain))))
-      (λ e. closed (anS r) wrongReceiveNumber (λ z. omega arith) ((λ z. absurd (omega arith)), (λ k. absurd (not-fitting r h e k))))
+      (λ e. closed (anS r) wrongReceiveNumber (λ z. omega arith))
 
-  stepped-i : (n r : ℕ) (more : Bool) → r ≤ 32767 → Stepped (anI n r) now a (stepI n r more now a)
+  stepped-i : (n r : ℕ) (more : Bool) → Stepped (anI n r) now a (stepI n r more now a)
   unfolding stepI count
-  stepped-i n r more h =
+  stepped-i n r more =
       let out = free (freedBy r a) (count a) in
       by-test (eqb n (onWire (a .received)))
       (λ t.
       by-test (fits r a)
       (λ e.
-      stepped-number (anI n r) r (count a) true _ refl refl refl e ((λ q. (fits-some r h e, eqb-true _ _ t)), (λ q. refl))
+      stepped-number (anI n r) r (count a) true _ refl refl refl e
       (went-finish out now more _ (went-timing out now (t3From now) _ (went-timing out now (t2From now) _ (let-out (freedBy r a) (count a) few plain)))))
-      (λ e. closed (anI n r) wrongReceiveNumber (λ z. omega arith) ((λ z. absurd (omega arith)), (λ k. absurd (not-fitting r h e (k .0))))))
-      (λ t. closed (anI n r) wrongSendNumber (λ z. omega arith) ((λ z. absurd (omega arith)), (λ k. absurd (eqb-false _ _ t (k .1)))))
+      (λ e. closed (anI n r) wrongReceiveNumber (λ z. omega arith)))
+      (λ t. closed (anI n r) wrongSendNumber (λ z. omega arith))
 
   -- ---- U frames, stop, test, tick
 
@@ -446,7 +410,6 @@ module _ (now : ℕ) (a : Abstract) (within : Within a) (few : length (a .waitin
         plain = unfold queue in plain-last (a .waiting) x plain e;
         went = went-more (queue x a) now h w;
         silent = λ z. absurd (z refl);
-        exact = tt;
       }
 
   stepped-plain : (x : List ℕ) → plainAnswer x ≡ PlainAnswer.Plain → Stepped (anAsdu x) now a (stepPlain x now a)
@@ -470,17 +433,54 @@ module _ (now : ℕ) (a : Abstract) (within : Within a) (few : length (a .waitin
 
   -- ---- any call
 
-  stepped-frame : (f : FrameAnswer) (more : Bool) → numberOf (framed f) ≤ 32767 → Stepped (framed f) now a (stepFrame f more now a)
+  stepped-frame : (f : FrameAnswer) (more : Bool) → Stepped (framed f) now a (stepFrame f more now a)
   unfolding stepFrame
-  stepped-frame (FrameAnswer.I n r) more h = stepped-i (n .0) (r .0) more h
-  stepped-frame (FrameAnswer.S r) more h = stepped-s (r .0) more h
-  stepped-frame (FrameAnswer.U u) more h = stepped-u u more
-  stepped-frame (FrameAnswer.Refused r) more h = closed-other (r .0)
+  stepped-frame (FrameAnswer.I n r) more = stepped-i (n .0) (r .0) more
+  stepped-frame (FrameAnswer.S r) more = stepped-s (r .0) more
+  stepped-frame (FrameAnswer.U u) more = stepped-u u more
+  stepped-frame (FrameAnswer.Refused r) more = closed-other (r .0)
 
-  pub stepped : (e : Event) → numberOf (brings e) ≤ 32767 → Stepped (brings e) now a (step e now a)
+  pub stepped : (e : Event) → Stepped (brings e) now a (step e now a)
   unfolding step
-  stepped (frame f more) h = stepped-frame (frameAnswer f) more h
-  stepped (send x) h = stepped-send x (plainAnswer x) refl
-  stepped stop h = stepped-stop
-  stepped test h = stepped-test
-  stepped tick h = stepped-tick
+  stepped (frame f more) = stepped-frame (frameAnswer f) more
+  stepped (send x) = stepped-send x (plainAnswer x) refl
+  stepped stop = stepped-stop
+  stepped test = stepped-test
+  stepped tick = stepped-tick
+
+-- ---- which frames are accepted
+
+-- accepted exactly if, in totals
+abbrev pub Exact : Brought → ℕ → ℕ → ℕ → ℕ → Type 0
+Exact (anI n r) number s c t = (number ≡ 0) ↔ (((a : ℕ) × Confirms 32768 c s r a) × (n ≡ t % 32768))
+Exact (anS r) number s c t = (number ≡ 0) ↔ ((a : ℕ) × Confirms 32768 c s r a)
+Exact (anAsdu x) number s c t = Unit {0}
+Exact other number s c t = Unit {0}
+
+-- the receive number, if any
+abbrev pub numberOf : Brought → ℕ
+numberOf (anI n r) = r
+numberOf (anS r) = r
+numberOf (anAsdu x) = 0
+numberOf other = 0
+
+module _ (now : ℕ) (a : Abstract) (within : Within a) where
+  abbrev Exactly : Brought → Result → Type 0
+  Exactly b r = Exact b (r .refused) (a .sent) (a .confirmed) (a .received)
+
+  exact-frame : (f : FrameAnswer) (more : Bool) → numberOf (framed f) ≤ 32767 → Exactly (framed f) (stepFrame f more now a)
+  unfolding stepFrame
+  exact-frame (FrameAnswer.I n r) more h =
+      let x = accepts-exactly now more a (n .0) (r .0) within (omega arith) .i-frame in
+      ((λ z. let p = x .0 z in (p .1, p .0)), (λ p. x .1 (p .1, p .0)))
+  exact-frame (FrameAnswer.S r) more h = accepts-exactly now more a 0 (r .0) within (omega arith) .s-frame
+  exact-frame (FrameAnswer.U u) more h = tt
+  exact-frame (FrameAnswer.Refused r) more h = tt
+
+  pub exactly : (e : Event) → numberOf (brings e) ≤ 32767 → Exactly (brings e) (step e now a)
+  unfolding step
+  exactly (frame f more) h = exact-frame (frameAnswer f) more h
+  exactly (send x) h = tt
+  exactly stop h = tt
+  exactly test h = tt
+  exactly tick h = tt
