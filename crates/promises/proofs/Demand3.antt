@@ -34,6 +34,7 @@ use Rattle.link.specs.declared.answers.LinkAnswer.{LinkAnswer}
 use Rattle.link.specs.declared.answers.LinkAnswer.the-variants as LinkAnswer
 use Rattle.link.proofs.Wires.{wire-append}
 use Rattle.link_meaning.specs.Abstract.{Abstract, Result, fresh, step}
+use Rattle.link_meaning.specs.Effects.{asdusOf}
 use Rattle.link_meaning.specs.Meaning.{OctetsIn, waitingOf, timesOf, Same}
 use Rattle.link_meaning.specs.Runs.{Agrees}
 use Rattle.link_meaning.specs.Runs as totals
@@ -41,7 +42,7 @@ use Rattle.link_meaning.proofs.Meaning.{steps-alike}
 use Rattle.link_meaning.proofs.Runs.{runs-agree}
 use Rattle.promises.specs.Demand3.{Call, outcomeOf, answered, poolAfter, Entry, entryOf, Run, opening, after, cut, iFramesIn, iFrames, allHanded, S, sendTimes, asdusIn, haveLeft, Brought, framed, brings, confirmedBy, R, A, takenBy, taken, Numbered, Claim, Demand3}
 use Rattle.promises.proofs.Demand3Pool.{pool-is}
-use Rattle.promises.proofs.Demand3Wire.{AllFit, allOf, each, sentIn, stream-wire, all-fit, asdus-out, numbers-out, fit-append, each-append, kept-append}
+use Rattle.promises.proofs.Demand3Wire.{AllFit, allOf, each, stream-wire, all-fit, asdus-out, numbers-out, fit-append, each-append, kept-append}
 use Rattle.promises.proofs.Demand3Steps.{AllPlain, Exact, Stepped, numberOf, stepped, exactly}
 
 -- ---- what a frame brings
@@ -139,7 +140,7 @@ plain-rest (x ∷ xs) ys h = plain-rest xs ys (h .1)
 module _ (s : Settings) (e : Entry) (past : List Entry) (a : Abstract) (r : Result) (c : Counted s past a) (st : Stepped (brings (e .event)) (e .now) a r)
     (number : e .number ≡ r .refused) (bytes : e .handed ≡ wire (r .frames)) where
   out : List (List ℕ)
-  out = sentIn (r .frames)
+  out = asdusOf (r .frames)
 
   fit : AllFit (r .frames)
   fit = all-fit (st .base .sent) (st .base .received) (r .frames) (st .went .carries)

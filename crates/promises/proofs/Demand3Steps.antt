@@ -28,10 +28,11 @@ use Rattle.link.specs.Frames.{Frame, iFrame, sFrame, uFrame, octetsOf, wire, st
 use Rattle.link.specs.Events.{Event, frame, send, stop, test, tick, isDue}
 use Rattle.link.proofs.Wires.{wire-append}
 use Rattle.link_meaning.specs.Abstract.{Abstract, Progress, Result, onWire, isOpen, freedBy, fits, free, count, sendOne, queue, timing, t1uFrom, t2From, t3From, testFrom, testAnswered, setClock, settle, ended, begin, change, add, sendOut, flush, letting, confirmAll, testOut, mustConfirm, finish, accept, refuse, close, stepS, stepI, stopLink, stepU, stepFrame, stepPlain, stepSend, stepStop, manyOpen, stepTest, tickNumber, tickT2, tickT3, stepTick, step}
+use Rattle.link_meaning.specs.Effects.{asdusOf}
 use Rattle.link_meaning.specs.Runs.{Within}
-use Rattle.link_meaning.proofs.Effects.{alone, accepts-exactly}
+use Rattle.link_meaning.proofs.Effects.{asdus-append, alone, accepts-exactly}
 use Rattle.promises.specs.Demand3.{Brought, anI, anS, anAsdu, other, framed, brings, receivedBy, confirmedBy, takenBy}
-use Rattle.promises.proofs.Demand3Wire.{Carrying, sentIn, carry-append, sent-append, s-six, u-six, i-most}
+use Rattle.promises.proofs.Demand3Wire.{Carrying, carry-append, s-six, u-six, i-most}
 
 -- ---- what has gone out so far
 
@@ -41,9 +42,9 @@ pub record Went (n : ℕ) (a : Abstract) (now : ℕ) (p : Progress) : Type 0 whe
   pub settings : p .link .settings ≡ a .settings
   pub received : p .link .received ≡ a .received
   pub confirmed : p .link .confirmed ≡ a .confirmed
-  pub sent : p .link .sent ≡ a .sent + length (sentIn (p .frames))
-  pub times : p .link .times ≡ a .times ++ replicate (length (sentIn (p .frames))) now
-  pub waiting : a .waiting ≡ sentIn (p .frames) ++ p .link .waiting
+  pub sent : p .link .sent ≡ a .sent + length (asdusOf (p .frames))
+  pub times : p .link .times ≡ a .times ++ replicate (length (asdusOf (p .frames))) now
+  pub waiting : a .waiting ≡ asdusOf (p .frames) ++ p .link .waiting
   pub carries : Carrying (a .sent) (a .received) (p .frames)
   pub size : length (wire (p .frames)) ≤ n
 
@@ -78,7 +79,7 @@ AllPlain (x ∷ xs) = (plainAnswer x ≡ PlainAnswer.Plain) × AllPlain xs
 
 module _ (a : Abstract) (now : ℕ) where
   went-begin : Went 0 a now (begin a)
-  unfolding wire
+  unfolding wire asdusOf
   went-begin =
       record {
         settings = refl;
@@ -114,7 +115,7 @@ module _ (a : Abstract) (now : ℕ) where
         confirmed = ap (λ (c : Counts). c .confirmed) e ∙ w .confirmed;
         sent = ap (λ (c : Counts). c .sent) e ∙ w .sent;
         times = ap (λ (c : Counts). c .times) e ∙ w .times;
-        waiting = w .waiting ∙ ap (λ (c : Counts). sentIn (p .frames) ++ c .waiting) (sym e);
+        waiting = w .waiting ∙ ap (λ (c : Counts). asdusOf (p .frames) ++ c .waiting) (sym e);
         carries = w .carries;
         size = w .size;
       }
@@ -128,11 +129,11 @@ module _ (a : Abstract) (now : ℕ) where
   unfolding wire
   longer p f m h l = omega (arith, ap length (wire-append (p .frames) (f ∷ [])), length-append (wire (p .frames)) (octetsOf f ++ []), length-append (octetsOf f) [])
 
-  went-short : {n : ℕ} (f : Frame) (p : Progress) → sentIn (f ∷ []) ≡ [] → length (octetsOf f) ≡ 6 → Carrying (p .link .sent) (a .received) (f ∷ [])
+  went-short : {n : ℕ} (f : Frame) (p : Progress) → asdusOf (f ∷ []) ≡ [] → length (octetsOf f) ≡ 6 → Carrying (p .link .sent) (a .received) (f ∷ [])
       → Went n a now p → Went (n + 6) a now (add f p)
   went-short f p none six h w =
-      let same : sentIn (p .frames ++ (f ∷ [])) ≡ sentIn (p .frames) =
-      sent-append (p .frames) (f ∷ []) ∙ (ap (λ (l : List (List ℕ)). sentIn (p .frames) ++ l) none ∙ append-nil (sentIn (p .frames))) in
+      let same : asdusOf (p .frames ++ (f ∷ [])) ≡ asdusOf (p .frames) =
+      asdus-append (p .frames) (f ∷ []) ∙ (ap (λ (l : List (List ℕ)). asdusOf (p .frames) ++ l) none ∙ append-nil (asdusOf (p .frames))) in
       record {
         settings = w .settings;
         received = w .received;
@@ -145,10 +146,11 @@ module _ (a : Abstract) (now : ℕ) where
       }
 
   went-u : {n : ℕ} (u : UFrame) (p : Progress) → Went n a now p → Went (n + 6) a now (add (uFrame u) p)
+  unfolding asdusOf
   went-u u p w = went-short (uFrame u) p refl (u-six u) tt w
 
   went-confirm : {n : ℕ} (p : Progress) → Went n a now p → Went (n + 6) a now (confirmAll p)
-  unfolding confirmAll
+  unfolding confirmAll asdusOf
   went-confirm p w =
       let f = sFrame (onWire (p .link .received)) in
       went-quiet (add f p) (settle (p .link)) (quiet-settle (p .link))
@@ -171,8 +173,8 @@ module _ (a : Abstract) (now : ℕ) where
   unfolding sendOut sendOne
   went-out x xs p e plain w =
       let f = iFrame (onWire (p .link .sent)) (onWire (p .link .received)) x in
-      let out = sentIn (p .frames) in
-      let one : sentIn (p .frames ++ (f ∷ [])) ≡ out ++ (x ∷ []) = sent-append (p .frames) (f ∷ []) in
+      let out = asdusOf (p .frames) in
+      let one : asdusOf (p .frames ++ (f ∷ [])) ≡ out ++ (x ∷ []) = unfold asdusOf in asdus-append (p .frames) (f ∷ []) in
       let many : length (out ++ (x ∷ [])) ≡ length out + 1 = length-append out (x ∷ []) in
       let sent = w .sent in
       record {
