@@ -4,31 +4,27 @@ use mathlib.Core.Path.{_≡_, refl, sym, ap, subst, _∙_}
 use mathlib.Core.Bool.{Bool, true, false}
 use mathlib.Core.List.{List, [], _++_, append-assoc}
 use native.Mathlib.Omega.{arith}
-use native.Mathlib.Numerals.{add-one}
 use borrow.Author.Tests.{eqb-true, ltb-false, lt-ltb, le-ltb, ne-eqb}
 use lib.Dec.{eqb, ltb}
-use lib.ListN.{length, set, take, drop, getD, length-append, length-take, length-drop}
-use lib.Seq.{sets, sets-eq, length-sets, drop-at, drop-cons}
+use lib.ListN.{length, set, take, drop, length-append, length-take, length-drop}
+use lib.Seq.{sets, sets-eq, length-sets, drop-at}
 use Rattle.laws.specs.Choice.{pick, _then_}
 use Rattle.laws.specs.Numbers.{leOctets}
-use Rattle.laws.proofs.Lists.{to-the-end, sets-all}
+use Rattle.laws.proofs.Lists.{to-the-end, sets-all, rest-sets}
 use Rattle.elements.specs.Refusals.{refusal, outputTooShort}
 use Rattle.elements.specs.declared.refusals.Refusal.{Refusal}
-use Rattle.objects.specs.Kinds.{kindOf}
 use Rattle.objects.specs.declared.kinds.Kind.{Kind}
-use Rattle.objects.specs.declared.kinds.KindAnswer.{KindAnswer}
-use Rattle.laws.proofs.Lists.{rest-sets}
-use Rattle.asdu.specs.Header.{needed, earlyRefusal, headerRefusal, headerBy, headerAnswer}
-use Rattle.asdu.specs.Reading.{refusalBy, readRefusal}
+use Rattle.asdu.specs.Header.{needed}
 use Rattle.asdu.specs.Writing.{writeRefusal, asduOctets, writeAnswer, written}
 use Rattle.asdu.specs.declared.Asdu.{Asdu}
-use Rattle.asdu.specs.declared.header.HeaderAnswer.the-variants as HeaderAnswer
 use Rattle.asdu.specs.declared.WriteAnswer.{WriteAnswer}
 use Rattle.asdu.specs.declared.WriteAnswer.the-variants.{Octets, Refused}
 use Rattle.laws.proofs.Choices.{passed, both}
 use Rattle.asdu.proofs.Lengths.{writable, asdu-long}
 use Rattle.asdu_write.proofs.Places.{room-enough}
-use Rattle.apdu.specs.Writing.{startOctets, iOctets, numberRefusal, numbersRefusal, roomRefusal, answerFor, outputFor}
+use Rattle.apdu.specs.Control.{uOctet}
+use Rattle.apdu.specs.declared.frame.UFrame.{UFrame}
+use Rattle.apdu.specs.Writing.{startOctets, iOctets, sOctets, uOctets, numberRefusal, numbersRefusal, roomRefusal, answerFor, outputFor}
 
 -- ---- the answer and the output
 
@@ -84,38 +80,23 @@ record-refused a = ne-eqb (writeRefusal a 0) 0 (λ h. let (k, w) = writable a 0 
     at-least k true n h = omega arith
     at-least k false n h = omega arith
 
--- octets that are not refused are at most 249
-header-passed : (s : List ℕ) (k : KindAnswer) (b : Bool) → eqb (headerRefusal s) 0 ≡ b
-    → refusalBy (pick b (headerBy k s) (HeaderAnswer.Refused (refusal (headerRefusal s)))) s ≡ 0 → headerRefusal s ≡ 0
-header-passed s k true e h = eqb-true _ _ e
-header-passed s k false e h = h
-
-not-long : (s : List ℕ) → headerRefusal s ≡ 0 → length s ≤ 249
-unfolding headerRefusal earlyRefusal
-not-long s h = ltb-false _ _ (passed (ltb 249 (length s)) 16 _ (both (earlyRefusal s) _ h .0) .0)
-
-pub octets-small : (s : List ℕ) → readRefusal s ≡ 0 → length s ≤ 249
-unfolding readRefusal headerAnswer
-octets-small s h = not-long s (header-passed s (kindOf (getD s 0 0)) (eqb (headerRefusal s) 0) refl h)
-
 -- ---- the six octets
 
 pub start-long : (l a b : ℕ) → length (startOctets l a b) ≡ 6
 unfolding leOctets
 start-long l a b = refl
 
-pub start-stored : (l a b : ℕ) (out : List ℕ) {o₁ o₂ o₃ o₄ : List ℕ}
-    → o₁ ≡ set out 0 104 → o₂ ≡ set o₁ 1 l → o₃ ≡ sets o₂ 2 (leOctets 2 a) → o₄ ≡ sets o₃ 4 (leOctets 2 b) → o₄ ≡ sets out 0 (startOctets l a b)
+pub start-stored : (at l a b : ℕ) (out : List ℕ) {o₁ o₂ o₃ o₄ : List ℕ}
+    → o₁ ≡ set out at 104 → o₂ ≡ set o₁ (at + 1) l → o₃ ≡ sets o₂ (at + 2) (leOctets 2 a) → o₄ ≡ sets o₃ (at + 4) (leOctets 2 b)
+    → o₄ ≡ sets out at (startOctets l a b)
 unfolding leOctets
-start-stored l a b out e₁ e₂ e₃ e₄ = rw (e₄, e₃, e₂, e₁)
+start-stored at l a b out e₁ e₂ e₃ e₄ =
+    let one : at + 1 ≡ suc at = omega arith in
+    let two : at + 2 ≡ suc (suc at) = omega arith in
+    let four : at + 4 ≡ suc (suc (suc (suc at))) = omega arith in
+    rw (e₄, e₃, e₂, e₁, one, two, four)
 
 -- ---- octets stored
-
--- one octet of a row, then those after it
-pub one-more : (l : List ℕ) (at i : ℕ) (vs : List ℕ) → i < length vs → sets (set l (at + i) (getD vs i 0)) (at + (i + 1)) (drop (i + 1) vs) ≡ sets l (at + i) (drop i vs)
-one-more l at i vs h =
-    let e : at + (i + 1) ≡ suc (at + i) = omega arith in
-    rw (drop-cons vs i 0 h, e, add-one i)
 
 -- a row that stands before one that is stored already
 sets-before : (l vs ws : List ℕ) (n : ℕ) → length vs ≡ n → n + length ws ≤ length l → sets (sets l n ws) 0 vs ≡ sets l 0 (vs ++ ws)
@@ -131,6 +112,14 @@ sets-before l vs ws n e h =
     ∙ (ap (λ (x : List ℕ). vs ++ x) rest
     ∙ (sym (append-assoc vs ws _)
     ∙ (ap (λ (k : ℕ). (vs ++ ws) ++ drop k l) (sym long) ∙ sym (sets-all l (vs ++ ws) (omega (arith, long)))))))
+
+pub s-long : (r : ℕ) → length (sOctets r) ≡ 6
+unfolding sOctets
+s-long r = start-long 4 1 (r * 2)
+
+pub u-long : (u : UFrame) → length (uOctets u) ≡ 6
+unfolding uOctets
+u-long u = start-long 4 (uOctet u) 0
 
 -- an I frame: the ASDU's octets, then the six before them
 pub i-long : (s r : ℕ) (asdu : List ℕ) → length (iOctets s r asdu) ≡ 6 + length asdu

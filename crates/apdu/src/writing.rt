@@ -1,6 +1,5 @@
 // Writing frames into a lent output (apdu.rs, `Frame::to_apdu_bytes`): only the octets reported written change.
 ghost use mathlib.Core.Path.{_≡_};
-ghost use Prim.Native.Nat.{_+_, _≤_};
 ghost use lib.ListN.{length};
 ghost use lib.Seq.{sets};
 ghost use Rattle.elements.specs.Refusals.{refusal};
@@ -24,14 +23,16 @@ fn number_refusal(n: u16) -> Refusal
     Refusal::NONE
 }
 
-// The six octets before an ASDU: start, length, and the control octets as two numbers.
-fn put_start(out: &mut [u8], length: u8, a: u16, b: u16)
-    ensures { λ _. ⌜ now (out .exit) ≡ sets (now (out .entry)) 0 (startOctets length a b) ⌝ }
+// The six octets before an ASDU: start, length, and the control octets as two numbers; as far as the output reaches.
+pub fn put_start(out: &mut [u8], at: usize, length: u8, a: u16, b: u16)
+    ensures { λ _. ⌜ now (out .exit) ≡ sets (now (out .entry)) at (startOctets length a b) ⌝ }
 {
-    laws::put_octet(out, 0, frame::START);
-    laws::put_octet(out, 1, length);
-    laws::put_le2(out, 2, a);
-    laws::put_le2(out, 4, b);
+    if at < out.len() {
+        laws::put_octet(out, at, frame::START);
+        laws::put_octet(out, at + 1, length);
+        laws::put_le2(out, at + 2, a);
+        laws::put_le2(out, at + 4, b);
+    }
 }
 
 pub fn write_s(receive: ReceiveNumber, out: &mut [u8]) -> WriteAnswer
@@ -45,7 +46,7 @@ pub fn write_s(receive: ReceiveNumber, out: &mut [u8]) -> WriteAnswer
     if out.len() < 6 {
         return WriteAnswer::Refused(Refusal::OUTPUT_TOO_SHORT);
     }
-    put_start(out, 4, 1, receive.0 * 2);
+    put_start(out, 0, 4, 1, receive.0 * 2);
     WriteAnswer::Octets(6)
 }
 
@@ -56,7 +57,7 @@ pub fn write_u(u: UFrame, out: &mut [u8]) -> WriteAnswer
     if out.len() < 6 {
         return WriteAnswer::Refused(Refusal::OUTPUT_TOO_SHORT);
     }
-    put_start(out, 4, u.to_byte() as u16, 0);
+    put_start(out, 0, 4, u.to_byte() as u16, 0);
     WriteAnswer::Octets(6)
 }
 
@@ -86,20 +87,8 @@ pub fn write_i(send: SendNumber, receive: ReceiveNumber, asdu: Asdu, out: &mut [
     let WriteAnswer::Octets(n) = answer else {
         return answer;
     };
-    put_start(out, (4 + n) as u8, send.0 * 2, receive.0 * 2);
+    put_start(out, 0, (4 + n) as u8, send.0 * 2, receive.0 * 2);
     WriteAnswer::Octets(6 + n)
-}
-
-// The ASDU's octets behind the six before them.
-fn put_part(out: &mut [u8], octets: &[u8])
-    requires { ⌜ 6 + length (now octets) ≤ length (now out) ⌝ }
-    ensures { λ _. ⌜ now (out .exit) ≡ sets (now (out .entry)) 6 (now (octets .entry)) ⌝ }
-{
-    let mut i: usize = 0;
-    while i < octets.len() {
-        out[6 + i] = octets[i];
-        i += 1;
-    }
 }
 
 // An I frame from an ASDU's octets, as the link has them.
@@ -124,7 +113,7 @@ pub fn write_i_octets(
     if out.len() < 6 + size {
         return WriteAnswer::Refused(Refusal::OUTPUT_TOO_SHORT);
     }
-    put_part(out, asdu);
-    put_start(out, (4 + size) as u8, send.0 * 2, receive.0 * 2);
+    laws::put_octets(out, frame::ASDU_START, asdu);
+    put_start(out, 0, (4 + size) as u8, send.0 * 2, receive.0 * 2);
     WriteAnswer::Octets(6 + size)
 }

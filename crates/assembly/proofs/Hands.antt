@@ -1,14 +1,13 @@
--- Bytes on hand by their places, and bytes stored in a row. Assumes nothing.
-use Prim.Native.Nat.{ℕ, suc, _+_, _-_, _<_, _≤_}
+-- Bytes on hand by their places. Assumes nothing.
+use Prim.Native.Nat.{ℕ, _+_, _-_, _<_, _≤_}
 use mathlib.Core.Path.{_≡_, sym, ap, _∙_}
 use mathlib.Core.List.{List}
 use native.Mathlib.Omega.{arith}
-use native.Mathlib.Numerals.{add-one}
 use native.Mathlib.Decide.{decLt}
 use borrow.Author.Tests.{lt-ltb, le-ltb, ltb-false}
 use lib.Dec.{ltb}
-use lib.ListN.{length, set, drop, take, getD, List·getD-append}
-use lib.Seq.{sets, drop-cons, getD-take, getD-append-add, length-take-le}
+use lib.ListN.{length, take, getD, List·getD-append}
+use lib.Seq.{getD-take, getD-append-add, length-take-le}
 use Rattle.laws.proofs.Choices.{passed}
 use Rattle.assembly.specs.Start.{carryRefusal}
 use Rattle.assembly.specs.Topping.{onHand}
@@ -39,9 +38,3 @@ module _ (carry : List ℕ) (held : ℕ) (chunk : List ℕ) (at : ℕ) (fits : h
   in-chunk h =
       let e : at ≡ length (take held carry) + (at - held) = omega (arith, long) in
       ap (λ (n : ℕ). getD (onHand carry held chunk) n 0) e ∙ getD-append-add (take held carry) chunk (at - held) 0
-
--- one byte of a row, then those after it
-pub one-more : (l : List ℕ) (at i : ℕ) (vs : List ℕ) → i < length vs → sets (set l (at + i) (getD vs i 0)) (at + (i + 1)) (drop (i + 1) vs) ≡ sets l (at + i) (drop i vs)
-one-more l at i vs h =
-    let e : at + (i + 1) ≡ suc (at + i) = omega arith in
-    rw (drop-cons vs i 0 h, e, add-one i)

@@ -1,11 +1,11 @@
--- Topping up as the code comes to it: what is refused, what fits, and what is stored. Assumes nothing.
+-- Topping up as the code comes to it: what is refused, how much is moved, and what is stored. Assumes nothing.
 use Prim.Native.Nat.{ℕ, _+_, _-_, _≤_, min}
 use mathlib.Core.Path.{_≡_, refl}
 use mathlib.Core.Bool.{Bool, true, false}
 use mathlib.Core.List.{List}
 use native.Mathlib.Omega.{arith}
 use lib.Dec.{eqb, ltb}
-use lib.ListN.{length, getD, take, length-take}
+use lib.ListN.{length, getD, take}
 use lib.Seq.{sets}
 use borrow.Author.Tests.{eqb-true, ltb-true}
 use Rattle.laws.specs.Choice.{pick}
@@ -35,7 +35,7 @@ module _ (carry : List ℕ) (held : ℕ) (chunk : List ℕ) where
     room = carry-fits _ _ (both (carryRefusal (length carry) held) _ none .0)
 
     -- what is moved never brings the carry above the longest frame
-    pub small : held + moving carry held chunk ≤ 255
+    small : held + moving carry held chunk ≤ 255
     unfolding topUpRefusal moving
     small = by (ltb (held + length chunk) 3) refl (both (carryRefusal (length carry) held) _ none .1)
       where
@@ -46,9 +46,6 @@ module _ (carry : List ℕ) (held : ℕ) (chunk : List ℕ) where
             → held + pick t (length chunk) (min (2 + l - held) (length chunk)) ≤ 255
         by true b z = omega (arith, ltb-true (held + length chunk) 3 b)
         by false b z = omega (arith, room, taken _ l z .most)
-
-    pub fits : {m : ℕ} {part : List ℕ} → m ≡ moving carry held chunk → part ≡ take m chunk → held + length part ≤ length carry
-    fits {m} e p = rw (p, length-take) (omega (arith, room, small))
 
   -- an answer that tells of moved bytes was not refused
   pub moved-small : (m : ℕ) → topUpAnswer carry held chunk ≡ Moved m → held + m ≤ 255

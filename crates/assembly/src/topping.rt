@@ -1,9 +1,8 @@
 // Topping up: bytes of the chunk go into the carry until it holds one whole frame or the chunk is used up.
 ghost use mathlib.Core.Path.{_≡_};
-ghost use Prim.Native.Nat.{_+_, _-_, _≤_, min};
+ghost use Prim.Native.Nat.{_+_, _≤_};
 ghost use lib.ListN.{length, getD};
 ghost use lib.Dec.{ltb};
-ghost use lib.Seq.{sets};
 ghost use Rattle.elements.specs.Refusals.{refusal};
 ghost use Rattle.assembly.specs.Topping.{onHand, topUpRefusal, moving, topUpAnswer, topUpNumber, topped};
 use crate::start;
@@ -60,19 +59,6 @@ fn refusal_of(carry: &[u8], held: usize, chunk: &[u8]) -> Refusal
     start::start_refusal(first, on_hand(carry, held, chunk, 1))
 }
 
-// How many bytes are missing, and at most so many as there are.
-fn missing(size: usize, held: usize, most: usize) -> usize
-    ensures { λ r. ⌜ r ≡ min (size - held) most ⌝ }
-{
-    if size <= held {
-        return 0;
-    }
-    if most < size - held {
-        return most;
-    }
-    size - held
-}
-
 fn to_move(carry: &[u8], held: usize, chunk: &[u8]) -> usize
     requires { ⌜ held ≤ length (now carry) ⌝ }
     ensures { λ r. ⌜ r ≡ moving (now (carry .entry)) held (now (chunk .entry)) ⌝ }
@@ -81,18 +67,7 @@ fn to_move(carry: &[u8], held: usize, chunk: &[u8]) -> usize
         return chunk.len();
     }
     let length = on_hand(carry, held, chunk, 1);
-    missing(start::HEADER_SIZE + (length as usize), held, chunk.len())
-}
-
-fn put_part(carry: &mut [u8], held: usize, part: &[u8])
-    requires { ⌜ held + length (now part) ≤ length (now carry) ⌝ }
-    ensures { λ _. ⌜ now (carry .exit) ≡ sets (now (carry .entry)) held (now (part .entry)) ⌝ }
-{
-    let mut i: usize = 0;
-    while i < part.len() {
-        carry[held + i] = part[i];
-        i += 1;
-    }
+    laws::up_to(start::HEADER_SIZE + (length as usize), held, chunk.len())
 }
 
 // How many bytes were moved: the carry holds so many more.
@@ -105,6 +80,6 @@ pub fn top_up(carry: &mut [u8], held: usize, chunk: &[u8]) -> TopUpAnswer
         return TopUpAnswer::Refused(refused);
     }
     let moved = to_move(carry, held, chunk);
-    put_part(carry, held, start::part_to(chunk, moved));
+    laws::put_octets(carry, held, start::part_to(chunk, moved));
     TopUpAnswer::Moved(moved)
 }

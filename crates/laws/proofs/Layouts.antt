@@ -90,10 +90,6 @@ pub fields-fit : (l : Layout) (b : ℕ) → Fitting l (fields l b)
 fields-fit [] b = tt
 fields-fit (f ∷ l) b = (rw (field-is (f .pos) (f .wide) b) (mod-lt (b / 2 ^ f .pos) (pow-pos (f .wide))), fields-fit l b)
 
--- what is kept of an octet has the octet's fields
-pub fields-kept : (hi : ℕ) (l : Layout) (b : ℕ) → T (apart 0 l hi) → fields l (kept l b) ≡ fields l b
-fields-kept hi l b o = fields-octet hi l (fields l b) o (fields-fit l b)
-
 -- ---- bit by bit
 
 bit-is : (i b : ℕ) → field i 1 b ≡ b / 2 ^ i % 2

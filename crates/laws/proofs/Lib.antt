@@ -1,4 +1,5 @@
 pub mod Tests
+pub mod Clauses
 pub mod Choices
 pub mod Layouts
 pub mod Numbers

@@ -1,13 +1,14 @@
 -- Laws of lists: octets, storing in a row, parts written back, values by index, padding, rings.
-use Prim.Native.Nat.{ℕ, zero, suc, _+_, _-_, _%_, _<_, _≤_}
+use Prim.Native.Nat.{ℕ, zero, suc, _+_, _-_, _%_, _<_, _≤_, min}
 use mathlib.Core.Path.{_≡_, refl, sym, ap, _∙_}
 use mathlib.Core.List.{List, [], _∷_, _++_, append-assoc, append-nil}
+use mathlib.Core.Logic.{_⊎_, ⊎-elim}
 use native.Mathlib.Omega.{arith}
 use native.Mathlib.Numerals.{add-one}
 use native.Mathlib.Nat.{zero-add, add-zero, add-suc, le-add-right, add-assoc, add-sub-of-le, mod-add-mod, mod-lt, mod-eq-of-lt, mod-eq-sub-mod}
 use native.Mathlib.Decide.{decLt}
-use lib.ListN.{replicate, length-replicate, length, set, take, drop, getD, length-append, length-take, length-drop, take-append-drop, List·getD-append}
-use lib.Seq.{take-length, drop-length, take-set-le, drop-set-add, sets, sets-eq, length-sets, set-out, drop-drop, take-at, drop-at, getD-at, getD-take, getD-drop, getD-append-add, ext-getD}
+use lib.ListN.{replicate, length-replicate, length, set, take, drop, getD, length-append, length-take, length-drop, drop-of-length-le, take-append-drop, List·getD-append}
+use lib.Seq.{take-length, drop-length, take-set-le, drop-set-add, drop-cons, sets, sets-eq, set-out, drop-drop, take-at, drop-at, getD-at, getD-take, getD-drop, getD-append-add, ext-getD}
 use Rattle.laws.specs.Lists.{Octets, put, tabulate, ring, padded}
 
 -- ---- octets
@@ -40,6 +41,19 @@ module _ {A : Type 0} where
   pub sets-all : (l vs : List A) → length vs ≤ length l → sets l 0 vs ≡ vs ++ drop (length vs) l
   sets-all l vs h = sets-eq vs l 0 (rw zero-add h) ∙ rw zero-add
 
+  -- a row stored one by one: a turn, and what is left where the row or the list ends
+  pub sets-turn : (l : List A) (at i : ℕ) (vs : List A) (z : A) → i < length vs
+      → sets (set l (at + i) (getD vs i z)) (at + (i + 1)) (drop (i + 1) vs) ≡ sets l (at + i) (drop i vs)
+  sets-turn l at i vs z h =
+      let e : at + (i + 1) ≡ suc (at + i) = omega arith in
+      rw (drop-cons vs i z h, e, add-one i)
+
+  pub sets-stop : (l : List A) (at i : ℕ) (vs : List A) → min (length l - at) (length vs) ≤ i → sets l (at + i) (drop i vs) ≡ l
+  sets-stop l at i vs h = elim (decLt i (length vs)) [
+    | yes g ↦ sets-past l (at + i) (drop i vs) (omega arith)
+    | no g ↦ let past : length vs ≤ i = omega arith in ap (sets l (at + i)) (drop-of-length-le vs past)
+  ]
+
   pub sets-append : (l : List A) (i : ℕ) (vs ws : List A) → sets l i (vs ++ ws) ≡ sets (sets l i vs) (i + length vs) ws
   sets-append l i [] ws = rw add-zero
   sets-append l i (v ∷ vs) ws = sets-append (set l i v) (suc i) vs ws ∙ ap (λ (j : ℕ). sets (sets (set l i v) (suc i) vs) j ws) (omega arith)
@@ -49,25 +63,6 @@ module _ {A : Type 0} where
   pub length-put : (d : List A) (at : ℕ) (s : List A) → at + length s ≤ length d → length (put d at s) ≡ length d
   unfolding put
   length-put d at s h = simp (length-append, length-take, length-drop) (omega arith)
-
-  -- values stored from the start of the part are stored from `at` on
-  pub put-sets : (d : List A) (at : ℕ) (vs : List A) → at + length vs ≤ length d → put d at (sets (drop at d) 0 vs) ≡ sets d at vs
-  unfolding put
-  put-sets d at vs h =
-      let part = drop at d in
-      let lp : length vs ≤ length part = simp length-drop (omega arith) in
-      let ls : length (sets part 0 vs) ≡ length part = length-sets part 0 vs in
-      let none : drop (length (sets part 0 vs)) part ≡ [] = rw ls (drop-length part) in
-      rw (none, append-nil, sets-all part vs lp, drop-drop (length vs) at d) (sym (sets-eq vs d at h ∙ append-assoc (take at d) vs _))
-
-  pub put-put : (d : List A) (at : ℕ) (s t : List A) → at + length s + length t ≤ length d → put (put d at s) (at + length s) t ≡ put d at (s ++ t)
-  unfolding put
-  put-put d at s t h =
-      let rest = drop (length s) (drop at d) in
-      let p = take at d ++ s in
-      let lp : length p ≡ at + length s = simp (length-append, length-take) (omega arith) in
-      rw (← append-assoc (take at d) s rest, take-at p rest (at + length s) lp, drop-at p rest (at + length s) lp)
-      (simp (append-assoc, drop-drop, length-append, add-assoc))
 
   -- what stood before the part, and what is read out of it
   pub getD-put-before : (d : List A) (at : ℕ) (s : List A) (i : ℕ) (z : A) → i < at → at ≤ length d → getD (put d at s) i z ≡ getD d i z
@@ -93,6 +88,25 @@ module _ {A : Type 0} where
   put-part d at s h =
       let lt : length (take at d) ≡ at = simp length-take (omega arith) in
       ap (take (length s)) (drop-at (take at d) _ at lt) ∙ take-at s _ (length s) refl
+
+  -- octets stored are a part put in
+  pub sets-put : (d : List A) (at : ℕ) (s : List A) → at + length s ≤ length d → sets d at s ≡ put d at s
+  unfolding put
+  sets-put d at s h = sets-eq s d at h ∙ rw (append-assoc, drop-drop (length s) at d)
+
+  -- a part that lies before or after it is the same
+  pub put-apart : (d : List A) (at : ℕ) (s : List A) (p n : ℕ) (z : A) → at + length s ≤ length d → (p + n ≤ at) ⊎ (at + length s ≤ p)
+      → take n (drop p (put d at s)) ≡ take n (drop p d)
+  put-apart d at s p n z h side =
+      let long : length (take n (drop p (put d at s))) ≡ length (take n (drop p d)) =
+      simp (length-take, length-drop) (ap (λ (k : ℕ). min n (k - p)) (length-put d at s h)) in
+      ext-getD z _ _ long
+      (λ i l.
+      let small : i < n = (let l2 = simp length-take at l in omega arith) in
+      getD-take n (drop p (put d at s)) i z small
+      ∙ (getD-drop p (put d at s) i z
+      ∙ (⊎-elim (λ before. getD-put-before d at s (p + i) z (omega arith) (omega arith)) (λ after. getD-put-after d at s (p + i) z (omega arith) h) side
+      ∙ sym (getD-take n (drop p d) i z small ∙ getD-drop p d i z))))
 
   -- values stored in the part from a place on are stored in the list, as far as it reaches
   pub part-sets : (l : List A) (at i : ℕ) (vs : List A) → take at l ++ sets (drop at l) i vs ≡ sets l (at + i) vs
@@ -137,11 +151,6 @@ module _ {A : Type 0} where
       ap (λ (k : ℕ). drop j (tabulate f i k)) (sym (add-sub-of-le h))
       ∙ (ap (drop j) (tabulate-add f i j (n - j)) ∙ drop-at (tabulate f i j) _ j (length-tabulate f i j))
 
-  pub take-tabulate : (f : ℕ → A) (i j n : ℕ) → j ≤ n → take j (tabulate f i n) ≡ tabulate f i j
-  take-tabulate f i j n h =
-      ap (λ (k : ℕ). take j (tabulate f i k)) (sym (add-sub-of-le h))
-      ∙ (ap (take j) (tabulate-add f i j (n - j)) ∙ take-at (tabulate f i j) _ j (length-tabulate f i j))
-
   pub getD-tabulate : (f : ℕ → A) (i n j : ℕ) (d : A) → j < n → getD (tabulate f i n) j d ≡ f (i + j)
   unfolding tabulate
   getD-tabulate f i n j d h =
@@ -159,10 +168,6 @@ module _ {A : Type 0} where
 -- ---- padding
 
 module _ {A : Type 0} where
-  pub length-padded : (m : ℕ) (a : A) (l : List A) → length l ≤ m → length (padded m a l) ≡ m
-  unfolding padded
-  length-padded m a l h = simp (length-append, length-drop, length-replicate) (omega arith)
-
   -- storing from the start of m copies is padding
   pub sets-padded : (m : ℕ) (a : A) (l : List A) → length l ≤ m → sets (replicate m a) 0 l ≡ padded m a l
   unfolding padded
@@ -193,13 +198,13 @@ mod-apart p i j m hi hj e =
     ]
 
 module _ {A : Type 0} where
-  pub ring-ext : (f g : ℕ → A) (m p n : ℕ) → ((i : ℕ) → i < n → f ((p + i) % m) ≡ g ((p + i) % m)) → ring f m p n ≡ ring g m p n
-  unfolding ring
-  ring-ext f g m p n h = tabulate-ext _ _ 0 n (λ i a b. h i (omega arith))
-
   pub length-ring : (f : ℕ → A) (m p n : ℕ) → length (ring f m p n) ≡ n
   unfolding ring
   length-ring f m p n = length-tabulate _ 0 n
+
+  pub ring-first : (f : ℕ → A) (m p n : ℕ) → p < m → ring f m p (suc n) ≡ f p ∷ drop 1 (ring f m p (suc n))
+  unfolding ring tabulate
+  ring-first f m p n h = let e : (p + 0) % m ≡ p = ap (λ (k : ℕ). k % m) (add-zero p) ∙ mod-eq-of-lt h in rw e
 
   -- the oldest j leave
   pub ring-drop : (f : ℕ → A) (m p n j : ℕ) → j ≤ n → drop j (ring f m p n) ≡ ring f m ((p + j) % m) (n - j)
@@ -210,12 +215,13 @@ module _ {A : Type 0} where
       ∙ (ap (λ (k : ℕ). tabulate at k (n - j)) (zero-add j)
       ∙ (tabulate-shift at j (n - j) ∙ tabulate-ext _ _ 0 (n - j) (λ i a b. ap f (sym (mod-add p j i m)))))
 
-  -- one more at the end, the others left alone
-  pub ring-push : (f g : ℕ → A) (m p n : ℕ) → n < m → ((q : ℕ) → (q ≡ (p + n) % m → ⊥) → g q ≡ f q)
-      → ring g m p (suc n) ≡ ring f m p n ++ (g ((p + n) % m) ∷ [])
+  -- one more at the end, the others the same
+  pub ring-more : (f g : ℕ → A) (m p n : ℕ) (y : A) → ((i : ℕ) → i < n → g ((p + i) % m) ≡ f ((p + i) % m)) → g ((p + n) % m) ≡ y
+      → ring g m p (suc n) ≡ ring f m p n ++ (y ∷ [])
   unfolding ring
-  ring-push f g m p n h same =
-      tabulate-snoc (λ (i : ℕ). g ((p + i) % m)) 0 n
-      ∙ (ap (λ (k : ℕ). tabulate (λ (i : ℕ). g ((p + i) % m)) 0 n ++ (g ((p + k) % m) ∷ [])) (zero-add n)
-      ∙ ap (λ (l : List A). l ++ (g ((p + n) % m) ∷ []))
-      (tabulate-ext _ _ 0 n (λ i a b. same ((p + i) % m) (mod-apart p i n m (omega arith) h))))
+  ring-more f g m p n y same e =
+      let at : ℕ → A = λ i. g ((p + i) % m) in
+      tabulate-snoc at 0 n
+      ∙ (ap (λ (k : ℕ). tabulate at 0 n ++ (g ((p + k) % m) ∷ [])) (zero-add n)
+      ∙ (ap (λ (x : A). tabulate at 0 n ++ (x ∷ [])) e
+      ∙ ap (λ (l : List A). l ++ (y ∷ [])) (tabulate-ext _ _ 0 n (λ i a b. same i (omega arith)))))

@@ -1,7 +1,7 @@
 // What every crate needs of octets: numbers of 2, 3 and 4 octets, the lowest octet first.
 // All are total: an octet past the end reads as 0, and one written past the end changes nothing.
 ghost use mathlib.Core.Path.{_≡_};
-ghost use Prim.Native.Nat.{_%_, _<_, _≤_};
+ghost use Prim.Native.Nat.{_-_, _%_, _<_, _≤_, min};
 ghost use lib.ListN.{drop, getD, set};
 ghost use lib.Seq.{sets};
 ghost use Rattle.laws.specs.Bits.{num};
@@ -25,6 +25,19 @@ pub fn bit(b: bool) -> u8
     ensures { λ r. ⌜ r ≤ 1 ⌝ }
 {
     b as u8
+}
+
+// What `size` has above `at`, and at most so many.
+pub fn up_to(size: usize, at: usize, most: usize) -> usize
+    ensures { λ r. ⌜ r ≡ min (size - at) most ⌝ }
+{
+    if size <= at {
+        return 0;
+    }
+    if most < size - at {
+        return most;
+    }
+    size - at
 }
 
 pub fn octet_at(s: &[u8], at: usize) -> u8
@@ -106,5 +119,17 @@ pub fn put_le4(out: &mut [u8], at: usize, n: u32)
     if at < out.len() {
         out[at] = low(n);
         put_le3(out, at + 1, n / 256);
+    }
+}
+
+// Octets in a row, as far as the output reaches.
+pub fn put_octets(out: &mut [u8], at: usize, octets: &[u8])
+    ensures { λ _. ⌜ now (out .exit) ≡ sets (now (out .entry)) at (now (octets .entry)) ⌝ }
+{
+    let n = up_to(out.len(), at, octets.len());
+    let mut i: usize = 0;
+    while i < n {
+        out[at + i] = octets[i];
+        i += 1;
     }
 }

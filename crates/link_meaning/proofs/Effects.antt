@@ -9,15 +9,13 @@ use lib.ListN.{length, drop, replicate, length-append, replicate-append-replicat
 use lib.Dec.{leb, eqb}
 use borrow.Author.Tests.{leb-true, le-leb, ltb-true, eqb-true, eq-eqb}
 use Rattle.laws.specs.Choice.{pick}
-use Rattle.laws.proofs.Choices.{held}
+use Rattle.laws.proofs.Choices.{held, picked, pick-same}
 use Rattle.laws.proofs.Window.{window}
-use Rattle.elements.specs.Refusals.{refusal, wrongReceiveNumber, wrongSendNumber, uNotAnswered, tooManyTests, queueFull, notPlainForm}
-use Rattle.elements.specs.declared.refusals.Refusal.{Refusal}
-use Rattle.asdu.specs.Header.{headerAnswer}
-use Rattle.asdu.specs.Reading.{readRefusal}
-use Rattle.asdu.specs.Plain.{plainBy, plainAnswer}
+use Rattle.elements.specs.Refusals.{wrongReceiveNumber, wrongSendNumber, uNotAnswered, tooManyTests, queueFull, notPlainForm}
+use Rattle.asdu.specs.Plain.{plainAnswer}
 use Rattle.asdu.specs.declared.PlainAnswer.{PlainAnswer}
 use Rattle.asdu.specs.declared.PlainAnswer.the-variants as PlainAnswer
+use Rattle.asdu.proofs.Passed.{plain-refused}
 use Rattle.apdu.specs.Control.{uOf, uOctet}
 use Rattle.apdu.specs.Reading.{frameAnswer}
 use Rattle.apdu.specs.declared.frame.UFrame.{UFrame}
@@ -99,11 +97,8 @@ module _ (a : Abstract) (now d c : ℕ) where
   unfolding flush
   grows-flush ws [] p e g = g
   grows-flush ws (x ∷ xs) p e g =
-      by (isOpen (p .link)) (grows-flush ws xs (sendOut now x xs p) (unfold sendOut sendOne in refl) (grows-send ws ws x xs p (ap (λ (l : List (List ℕ)). asdusOf (p .frames) ++ l) (sym e) ∙ g .order) g))
-    where
-      by : (b : Bool) → Grows a now d c ws (flush now xs (sendOut now x xs p)) → Grows a now d c ws (pick b (flush now xs (sendOut now x xs p)) p)
-      by true h = h
-      by false h = g
+      picked (Grows a now d c ws) (isOpen (p .link))
+      (grows-flush ws xs (sendOut now x xs p) (unfold sendOut sendOne in refl) (grows-send ws ws x xs p (ap (λ (l : List (List ℕ)). asdusOf (p .frames) ++ l) (sym e) ∙ g .order) g)) g
 
   -- the link changes in none of these
   grows-change : (ws : List (List ℕ)) (p : Progress) (b : Abstract) → b .sent ≡ p .link .sent → b .received ≡ p .link .received → b .confirmed ≡ p .link .confirmed
@@ -142,15 +137,7 @@ module _ (a : Abstract) (now d c : ℕ) where
 
   grows-finish : (ws : List (List ℕ)) (more : Bool) (p : Progress) → Grows a now d c ws p → Grows a now d c ws (finish more now p)
   unfolding finish
-  grows-finish ws more p g = by (mustConfirm (p .link) more)
-    where
-      by : (b : Bool) → Grows a now d c ws (pick b (confirmAll (change (setClock now) p)) (change (setClock now) p))
-      by true = grows-confirm ws _ (grows-clock ws p g)
-      by false = grows-clock ws p g
-
-  grows-pick : (ws : List (List ℕ)) (b : Bool) {p q : Progress} → Grows a now d c ws p → Grows a now d c ws q → Grows a now d c ws (pick b p q)
-  grows-pick ws true g h = g
-  grows-pick ws false g h = h
+  grows-finish ws more p g = let h = grows-clock ws p g in picked (Grows a now d c ws) (mustConfirm (p .link) more) (grows-confirm ws _ h) h
 
 -- ---- ends of a call
 
@@ -239,29 +226,11 @@ module _ (a : Abstract) (now : ℕ) where
     unfolding close ended
     has-close n ed ec et = has-refused n _ refl refl refl refl refl refl ed ec et
 
-    has-pick : (b : Bool) {x y : Result} → Effect e now a x → Effect e now a y → Effect e now a (pick b x y)
-    has-pick true g h = g
-    has-pick false g h = h
-
 -- ---- the events
-
-pick-same : (b : Bool) (n : ℕ) → pick b n n ≡ n
-pick-same true n = refl
-pick-same false n = refl
 
 none-waits : (ws : List (List ℕ)) → (0 < length ws → ⊥) → ws ≡ []
 none-waits [] h = refl
 none-waits (w ∷ ws) h = absurd (h (omega arith))
-
-pub not-refused : (s : List ℕ) (r : Refusal) → plainAnswer s ≡ PlainAnswer.Refused r → eqb (r .0) 0 ≡ false
-unfolding plainAnswer
-not-refused s r e = by (eqb (readRefusal s) 0) refl (plainBy (headerAnswer s) s) e
-  where
-    by : (b : Bool) → eqb (readRefusal s) 0 ≡ b → (c : Bool)
-        → pick b (pick c PlainAnswer.Plain PlainAnswer.Reserved) (PlainAnswer.Refused (refusal (readRefusal s))) ≡ PlainAnswer.Refused r → eqb (r .0) 0 ≡ false
-    by true h true q = let z : _≡_ {A = ℕ} 0 1 = cc in absurd (omega arith)
-    by true h false q = let z : _≡_ {A = ℕ} 0 1 = cc in absurd (omega arith)
-    by false h c q = let same : refusal (readRefusal s) ≡ r = cc in ap (λ (x : Refusal). eqb (x .0) 0) (sym same) ∙ h
 
 module _ (now : ℕ) (a : Abstract) (w : Within a) where
   abbrev Has : Event → Result → Type 0
@@ -272,8 +241,8 @@ module _ (now : ℕ) (a : Abstract) (w : Within a) where
   on-frame f more (FrameAnswer.I sent number) e =
       let ev = frame f more in
       let d = freedBy (number .0) a in
-      has-pick a now ev (eqb (sent .0) (onWire (a .received)))
-      (has-pick a now ev (fits (number .0) a)
+      picked (Has ev) (eqb (sent .0) (onWire (a .received)))
+      (picked (Has ev) (fits (number .0) a)
       (has-accepted a now ev true d 1 (a .waiting) _ (ap (λ (q : FrameAnswer). freesBy q (a .confirmed)) e) (ap countsBy e) (append-nil _)
       (grows-finish a now d 1 _ more _ (grows-timing a now d 1 _ (t3From now) _ (grows-timing a now d 1 _ (t2From now) _ (counts-lets a now d)))))
       (has-close a now ev wrongReceiveNumber refl refl refl))
@@ -281,7 +250,7 @@ module _ (now : ℕ) (a : Abstract) (w : Within a) where
   on-frame f more (FrameAnswer.S number) e =
       let ev = frame f more in
       let d = freedBy (number .0) a in
-      has-pick a now ev (fits (number .0) a)
+      picked (Has ev) (fits (number .0) a)
       (has-accepted a now ev false d 0 (a .waiting) _ (ap (λ (q : FrameAnswer). freesBy q (a .confirmed)) e) (ap countsBy e) (append-nil _)
       (grows-finish a now d 0 _ more _ (grows-timing a now d 0 _ (t3From now) _ (lets a now d))))
       (has-close a now ev wrongReceiveNumber refl refl refl)
@@ -291,20 +260,20 @@ module _ (now : ℕ) (a : Abstract) (w : Within a) where
       has-accepted a now ev came 0 0 (a .waiting) p (ap (λ (q : FrameAnswer). freesBy q (a .confirmed)) e) (ap countsBy e) (append-nil _) g in
       let stopping : (p : Progress) → Grows a now 0 0 (a .waiting) p → Has ev (accept false (change (stopLink now) p)) = λ p g.
       taken false _ (grows-ended a now 0 0 _ 0 _ (grows-clock a now 0 0 _ _ (grows-timing a now 0 0 _ (t3From now) p g))) in
-      has-pick a now ev (eqb (uOctet u) testAct)
+      picked (Has ev) (eqb (uOctet u) testAct)
       (taken false _ (grows-finish a now 0 0 _ more _ (grows-timing a now 0 0 _ (t3From now) _ (grows-u a now 0 0 _ (uOf testCon) _ (begins a now)))))
-      (has-pick a now ev (eqb (uOctet u) testCon)
+      (picked (Has ev) (eqb (uOctet u) testCon)
       (taken false _ (grows-finish a now 0 0 _ more _ (grows-timing a now 0 0 _ (t3From now) _ (grows-timing a now 0 0 _ testAnswered _ (begins a now)))))
-      (has-pick a now ev (eqb (uOctet u) stopAct)
+      (picked (Has ev) (eqb (uOctet u) stopAct)
       (stopping _ (grows-u a now 0 0 _ (uOf stopCon) _ (begins a now)))
-      (has-pick a now ev (eqb (uOctet u) stopCon) (stopping _ (begins a now)) (has-close a now ev uNotAnswered refl refl refl))))
+      (picked (Has ev) (eqb (uOctet u) stopCon) (stopping _ (begins a now)) (has-close a now ev uNotAnswered refl refl refl))))
   on-frame f more (FrameAnswer.Refused r) e =
       has-close a now (frame f more) (r .0)
       (ap (λ (q : FrameAnswer). pick (eqb (r .0) 0) (freesBy q (a .confirmed)) 0) e ∙ pick-same (eqb (r .0) 0) 0)
       (ap (λ (q : FrameAnswer). pick (eqb (r .0) 0) (countsBy q) 0) e ∙ pick-same (eqb (r .0) 0) 0) refl
 
   -- with the window open nothing waits
-  alone : isOpen a ≡ true → a .waiting ≡ []
+  pub alone : isOpen a ≡ true → a .waiting ≡ []
   unfolding isOpen
   alone e =
       none-waits (a .waiting)
@@ -326,7 +295,7 @@ module _ (now : ℕ) (a : Abstract) (w : Within a) where
           (grows-finish a now 0 0 (a .waiting ++ (asdu ∷ [])) false _
           (grows-send a now 0 0 (a .waiting) (a .waiting ++ (asdu ∷ [])) asdu (a .waiting) (begin a) (unfold asdusOf in (rw n)) (begins a now)))
       by false e =
-          has-pick a now (send asdu) (leb (a .settings .p) (length (a .waiting))) (has-refuse a now (send asdu) queueFull refl refl refl)
+          picked (Has (send asdu)) (leb (a .settings .p) (length (a .waiting))) (has-refuse a now (send asdu) queueFull refl refl refl)
           (has-accepted a now (send asdu) false 0 0 (a .waiting ++ (asdu ∷ [])) _ refl refl refl (grows-finish a now 0 0 _ false _ waits))
         where
           waits : Grows a now 0 0 (a .waiting ++ (asdu ∷ [])) (begin (queue asdu a))
@@ -338,7 +307,7 @@ module _ (now : ℕ) (a : Abstract) (w : Within a) where
   unfolding stepSend
   on-send asdu PlainAnswer.Plain e = on-plain asdu
   on-send asdu PlainAnswer.Reserved e = has-refuse a now (send asdu) notPlainForm refl refl refl
-  on-send asdu (PlainAnswer.Refused r) e = has-refuse a now (send asdu) (r .0) refl refl (rw (not-refused asdu r e))
+  on-send asdu (PlainAnswer.Refused r) e = has-refuse a now (send asdu) (r .0) refl refl (rw (plain-refused asdu r e))
 
   on-stop : Has stop (stepStop now a)
   unfolding stepStop
@@ -353,16 +322,16 @@ module _ (now : ℕ) (a : Abstract) (w : Within a) where
   on-test : Has test (stepTest now a)
   unfolding stepTest
   on-test =
-      has-pick a now test (manyOpen a) (has-close a now test tooManyTests refl refl refl)
+      picked (Has test) (manyOpen a) (has-close a now test tooManyTests refl refl refl)
       (has-accepted a now test false 0 0 (a .waiting) _ refl refl (append-nil _) (grows-finish a now 0 0 _ false _ (grows-test _ (begins a now))))
 
   on-tick : Has tick (stepTick now a)
   unfolding stepTick tickT3 tickT2
   on-tick =
-      let g = grows-pick a now 0 0 _ (isDue (a .timers .t2) now) (grows-confirm a now 0 0 _ _ (begins a now)) (begins a now) in
-      has-pick a now tick (eqb (tickNumber now a) 0)
+      let g = picked (Grows a now 0 0 _) (isDue (a .timers .t2) now) (grows-confirm a now 0 0 _ _ (begins a now)) (begins a now) in
+      picked (Has tick) (eqb (tickNumber now a) 0)
       (has-accepted a now tick false 0 0 (a .waiting) _ refl refl (append-nil _)
-      (grows-finish a now 0 0 _ false _ (grows-pick a now 0 0 _ (isDue (a .timers .t3) now) (grows-test _ g) g)))
+      (grows-finish a now 0 0 _ false _ (picked (Grows a now 0 0 _) (isDue (a .timers .t3) now) (grows-test _ g) g)))
       (has-close a now tick (tickNumber now a) refl refl refl)
 
 pub has-effect : HasEffect

@@ -35,7 +35,7 @@ use Rattle.link.specs.Making.{Making, withClock, withQueue, windowOpen, handOut
 use Rattle.link.specs.Events.{Outcome, refusing, closing, accepting, start, release, sFreeing, onS, received, iFreeing, onI, testsAnswered, stopped, testActed, testConfirmed, onU, onAnswer, onFrame, sendPlain, sendBy, onSend, onStop, tooMany, onTest, isDue, t1iDue, tickRefusal, tickedT2, tickedT3, ticked, onTick, Event, frame, send, stop, test, tick, eventOutcome, called}
 use Rattle.link_meaning.specs.Kept.{Shaped, linkAfter, Kept, StaysSound, Later, none, then, NeverOutside}
 use Rattle.link_meaning.proofs.Good.{Good, GoodMaking, Full, sound-good, good-sound, good-freed, good-hand, good-queued, good-waiting, waiting-full, good-timers, good-t1u, good-t2, good-t3, good-tested, good-confirmed, good-received, good-clock}
-use Rattle.link_meaning.proofs.Sizes.{plain-sized}
+use Rattle.asdu.proofs.Passed.{plain-sized}
 
 -- what a call that was not refused under 19 to 24 starts from, at its own clock and at the call's
 record Ready (s : State) (times : List ℕ) (now : ℕ) : Type 0 where

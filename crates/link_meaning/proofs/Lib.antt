@@ -1,5 +1,4 @@
 pub mod Good
-pub mod Sizes
 pub mod Kept
 pub mod Pool
 pub mod Pieces

@@ -5,24 +5,21 @@ use mathlib.Core.Bool.{Bool, true, false, _&&_, false≢true}
 use mathlib.Core.List.{List}
 use native.Mathlib.Omega.{arith}
 use native.Mathlib.Nat.{add-zero, mod-eq-of-lt}
-use lib.ListN.{length, drop, getD}
+use lib.ListN.{length, getD}
 use lib.Dec.{leb, ltb, eqb}
 use borrow.Author.Tests.{leb-true, leb-false, lt-ltb, ltb-true, eq-eqb}
 use Rattle.laws.specs.Choice.{pick}
-use Rattle.laws.specs.Lists.{Octets, tabulate, ring}
-use Rattle.laws.specs.Numbers.{leOf}
-use Rattle.laws.proofs.Lists.{octets-drop}
-use Rattle.laws.proofs.Numbers.{le-fits}
-use Rattle.elements.specs.Refusals.{refusal, iWithoutAsdu, badUControl, badSControl, badIControl, queueFull, notPlainForm, wrongReceiveNumber, wrongSendNumber, uNotAnswered, tooManyTests}
-use Rattle.asdu.specs.Reading.{readRefusal}
+use Rattle.laws.specs.Lists.{tabulate, ring}
+use Rattle.elements.specs.Refusals.{refusal, queueFull, notPlainForm, wrongReceiveNumber, wrongSendNumber, uNotAnswered, tooManyTests}
 use Rattle.asdu.specs.Plain.{plainAnswer}
 use Rattle.asdu.specs.declared.PlainAnswer.{PlainAnswer}
 use Rattle.asdu.specs.declared.PlainAnswer.the-variants as PlainAnswer
-use Rattle.apdu.specs.Control.{sendNumber, receiveNumber, numberAt, uOf, uOctet}
-use Rattle.apdu.specs.Reading.{outerRefusal, shortAnswer, longAnswer, frameAnswer}
+use Rattle.apdu.specs.Control.{uOctet}
+use Rattle.apdu.specs.Reading.{frameAnswer}
 use Rattle.apdu.specs.declared.frame.UFrame.{UFrame}
 use Rattle.apdu.specs.declared.frame.FrameAnswer.{FrameAnswer}
 use Rattle.apdu.specs.declared.frame.FrameAnswer.the-variants as FrameAnswer
+use Rattle.apdu.proofs.Shapes.{numberIn, number-low}
 use Rattle.link_state.specs.Acknowledging.{acknowledged}
 use Rattle.link_state.specs.Opening.{freshLink, opened}
 use Rattle.link_state.specs.declared.acknowledging.AckAnswer.the-variants as AckAnswer
@@ -35,51 +32,8 @@ use Rattle.link.specs.Events.{Outcome, refusing, closing, accepting, start, sFr
 use Rattle.link_meaning.specs.Abstract.{Abstract, Progress, Result, freedBy, fits, count, queue, timing, t1uFrom, t2From, t3From, testAnswered, begin, change, letting, finish, accept, refuse, close, stepS, stepI, stopLink, stepU, stepFrame, stepPlain, stepSend, stepStop, manyOpen, stepTest, oldestDue, tickNumber, tickT2, tickT3, stepTick, fresh, step}
 use Rattle.link_meaning.specs.Meaning.{timesOf, waitingOf, Means, SameOutcome, OctetsIn, OpensFresh, StepsAlike}
 use Rattle.link_meaning.proofs.Good.{Good, sound-good, good-received}
-use Rattle.link_meaning.proofs.Sizes.{plain-sized}
+use Rattle.asdu.proofs.Passed.{plain-sized}
 use Rattle.link_meaning.proofs.Pieces.{Alike, means-received, means-timing, means-clock, means-shut, means-queued, means-count, means-open, means-acknowledged, alike-add, alike-hand, alike-release, alike-confirm, alike-timing, alike-tested, alike-finish}
-
--- ---- frames that are read
-
--- a receive number, if any, of 15 bits
-abbrev numberIn : FrameAnswer → ℕ
-numberIn (FrameAnswer.I s r) = r .0
-numberIn (FrameAnswer.S r) = r .0
-numberIn (FrameAnswer.U u) = 0
-numberIn (FrameAnswer.Refused r) = 0
-
-record Small (a : FrameAnswer) : Type 0 where
-  low : numberIn a ≤ 32767
-
-small-pick : (b : Bool) {x y : FrameAnswer} → Small x → Small y → Small (pick b x y)
-small-pick true p q = p
-small-pick false p q = q
-
-small-u : (u : UFrame) → Small (FrameAnswer.U u)
-small-u u = record { low = omega arith }
-
-small-refused : (r : ℕ) → Small (FrameAnswer.Refused (refusal r))
-small-refused r = record { low = omega arith }
-
-small-number : (f : List ℕ) → Octets f → numberAt 4 f ≤ 32767
-small-number f o = let h = le-fits 2 (drop 4 f) (octets-drop 4 f o) in omega arith
-
-small-s : (f : List ℕ) → Octets f → Small (FrameAnswer.S (receiveNumber (numberAt 4 f)))
-small-s f o = record { low = small-number f o }
-
-small-i : (f : List ℕ) → Octets f → Small (FrameAnswer.I (sendNumber (numberAt 2 f)) (receiveNumber (numberAt 4 f)))
-small-i f o = record { low = small-number f o }
-
-read-small : (f : List ℕ) → Octets f → Small (frameAnswer f)
-unfolding frameAnswer shortAnswer longAnswer
-read-small f o =
-    small-pick (eqb (outerRefusal f) 0)
-    (small-pick (eqb (getD f 1 0) 4)
-    (small-pick (eqb (getD f 2 0 % 4) 3)
-    (small-pick (eqb (getD f 3 0) 0 && eqb (leOf 2 (drop 4 f)) 0) (small-u (uOf (getD f 2 0))) (small-refused badUControl))
-    (small-pick (eqb (getD f 2 0 % 4) 1) (small-pick (eqb (leOf 2 (drop 2 f)) 1) (small-s f o) (small-refused badSControl)) (small-refused iWithoutAsdu)))
-    (small-pick (eqb (getD f 2 0 % 2) 0 && eqb (getD f 4 0 % 2) 0)
-    (small-pick (eqb (readRefusal (drop 6 f)) 0) (small-i f o) (small-refused (readRefusal (drop 6 f)))) (small-refused badIControl)))
-    (small-refused (outerRefusal f))
 
 -- ---- choices by the same test
 
@@ -193,10 +147,10 @@ module _ (s : State) (times pool : List ℕ) (now : ℕ) (a : Abstract) (good : 
       (λ t. same-stopped _ _ begins)
       (λ t. same-close uNotAnswered))))
 
-  same-answer : (f : FrameAnswer) (more : Bool) → Small f → SameOutcome (onAnswer f s times pool more now) (stepFrame f more now a)
+  same-answer : (f : FrameAnswer) (more : Bool) → numberIn f ≤ 32767 → SameOutcome (onAnswer f s times pool more now) (stepFrame f more now a)
   unfolding onAnswer stepFrame
-  same-answer (FrameAnswer.I sent number) more h = same-i (sent .0) (number .0) more (h .low)
-  same-answer (FrameAnswer.S number) more h = same-s (number .0) more (h .low)
+  same-answer (FrameAnswer.I sent number) more h = same-i (sent .0) (number .0) more h
+  same-answer (FrameAnswer.S number) more h = same-s (number .0) more h
   same-answer (FrameAnswer.U u) more h = same-u u more
   same-answer (FrameAnswer.Refused r) more h = same-close (r .0)
 
@@ -264,7 +218,7 @@ module _ (s : State) (times pool : List ℕ) (now : ℕ) (a : Abstract) (good : 
 
   same-event : (e : Event) → OctetsIn e → SameOutcome (eventOutcome e s times pool now) (step e now a)
   unfolding eventOutcome onFrame onSend step
-  same-event (frame f more) o = same-answer (frameAnswer f) more (read-small f o)
+  same-event (frame f more) o = same-answer (frameAnswer f) more (number-low f o)
   same-event (send asdu) o = same-send asdu (plainAnswer asdu) refl
   same-event stop o = same-stop
   same-event test o = same-test

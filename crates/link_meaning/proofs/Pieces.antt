@@ -15,12 +15,13 @@ use Rattle.link_state.specs.Opening.{unset}
 use Rattle.link_state.specs.declared.acknowledging.AckAnswer.{AckAnswer}
 use Rattle.link_state.specs.declared.acknowledging.AckAnswer.the-variants as AckAnswer
 use Rattle.link_state.specs.declared.Settings.{Settings}
+use Rattle.link_state.specs.declared.Status.{Status}
 use Rattle.link_state.specs.declared.Timers.{Timers}
 use Rattle.link_state.specs.declared.State.{State}
 use Rattle.link.specs.Frames.{Frame, iFrame, uWith, testAct}
 use Rattle.link.specs.Making.{Making, withQueue, withTimers, withClock, freedOf, sentOf, handOut, firstWaiting, shifted, queued, freeSlot, letOut, flushed, room, sendWaiting, become, say, confirmedOf, confirm, due, testedOf, tested, ending, shut}
 use Rattle.link.specs.Events.{start, release, received}
-use Rattle.link_meaning.specs.Abstract.{Abstract, Progress, onWire, isOpen, freedBy, fits, free, count, sendOne, queue, timing, testFrom, setClock, settle, ended, begin, change, add, sendOut, flush, letting, confirmAll, testOut, mustConfirm, finish}
+use Rattle.link_meaning.specs.Abstract.{Abstract, Progress, onWire, isOpen, freedBy, fits, free, count, sendOne, queue, timing, testFrom, setUnconfirmed, setTimers, setStatus, setClock, settle, ended, begin, change, add, sendOut, flush, letting, confirmAll, testOut, mustConfirm, finish}
 use Rattle.link_meaning.specs.Meaning.{Means}
 use Rattle.link_meaning.proofs.Good.{Good, GoodMaking, good-freed, good-let-out}
 use Rattle.link_meaning.proofs.Pool.{times-freed, times-handed, waiting-long, waiting-first, waiting-queued}
@@ -68,69 +69,42 @@ module _ (s : State) (times pool : List ℕ) (a : Abstract) (m : Means s times p
         clock = m .clock;
       }
 
+  -- totals and lists as they are; the count, the timers, the status and the clock as they are told
+  means-told : {u v k n : ℕ} {t r : Timers} {x y : Status} → u ≡ v → t ≡ r → x ≡ y → k ≡ n
+      → Means (record { queue = s .queue; settings = s .settings; window = s .window; receive = record { next = s .receive .next; unconfirmed = u }; timers = t; status = x; clock = k })
+      times pool (setUnconfirmed v (setTimers r (setStatus y (setClock n a))))
+  means-told count timers status clock =
+      record {
+        settings = m .settings;
+        next = m .next;
+        recv = m .recv;
+        held = m .held;
+        send-times = m .send-times;
+        waiting = m .waiting;
+        unconfirmed = count;
+        timers = timers;
+        status = status;
+        clock = clock;
+      }
+
   -- any timers that are a function of settings and timers
   pub means-timing : (f : Settings → Timers → Timers) → Means (withTimers s (f (s .settings) (s .timers))) times pool (timing f a)
   unfolding timing
   means-timing f =
-      record {
-        settings = m .settings;
-        next = m .next;
-        recv = m .recv;
-        held = m .held;
-        send-times = m .send-times;
-        waiting = m .waiting;
-        unconfirmed = m .unconfirmed;
-        timers = cc (m .settings, m .timers);
-        status = m .status;
-        clock = m .clock;
-      }
+      let same : f (s .settings) (s .timers) ≡ f (a .settings) (a .timers) = cc (m .settings, m .timers) in
+      means-told (m .unconfirmed) same (m .status) (m .clock)
 
   pub means-settled : Means (confirmedOf s) times pool (settle a)
   unfolding confirmedOf settle
   means-settled =
-      record {
-        settings = m .settings;
-        next = m .next;
-        recv = m .recv;
-        held = m .held;
-        send-times = m .send-times;
-        waiting = m .waiting;
-        unconfirmed = refl;
-        timers = ap (λ (t : Timers). record { t1u = t .t1u; t2 = unset; t3 = t .t3; tests = t .tests }) (m .timers);
-        status = m .status;
-        clock = m .clock;
-      }
+      means-told refl (ap (λ (t : Timers). record { t1u = t .t1u; t2 = unset; t3 = t .t3; tests = t .tests }) (m .timers)) (m .status) (m .clock)
 
   pub means-clock : (now : ℕ) → Means (withClock s now) times pool (setClock now a)
-  means-clock now =
-      record {
-        settings = m .settings;
-        next = m .next;
-        recv = m .recv;
-        held = m .held;
-        send-times = m .send-times;
-        waiting = m .waiting;
-        unconfirmed = m .unconfirmed;
-        timers = m .timers;
-        status = m .status;
-        clock = refl;
-      }
+  means-clock now = means-told (m .unconfirmed) (m .timers) (m .status) refl
 
   pub means-shut : (n : ℕ) → Means (shut n s) times pool (ended n a)
   unfolding shut ended
-  means-shut n =
-      record {
-        settings = m .settings;
-        next = m .next;
-        recv = m .recv;
-        held = m .held;
-        send-times = m .send-times;
-        waiting = m .waiting;
-        unconfirmed = m .unconfirmed;
-        timers = m .timers;
-        status = refl;
-        clock = m .clock;
-      }
+  means-shut n = means-told (m .unconfirmed) (m .timers) refl (m .clock)
 
   pub means-queued : (x : List ℕ) → s .queue .count < 16 → length (s .queue .lengths) ≡ 16 → length x ≤ 249 → 3984 ≤ length pool
       → ((i : ℕ) → i < s .queue .count → getD (s .queue .lengths) ((s .queue .place + i) % 16) 0 ≤ 249)

@@ -1,38 +1,20 @@
 -- The rings and the pool as lists: the oldest leave, one more comes to the end. Assumes nothing.
-use Prim.Native.Nat.{ℕ, suc, _+_, _-_, _*_, _%_, _<_, _≤_, min}
+use Prim.Native.Nat.{ℕ, suc, _+_, _-_, _*_, _%_, _<_, _≤_}
 use mathlib.Core.Path.{_≡_, sym, ap, _∙_}
-use mathlib.Core.List.{List, [], _∷_, _++_, append-assoc}
-use mathlib.Core.Logic.{_⊎_, inl, inr, ⊎-elim}
+use mathlib.Core.List.{List, [], _∷_, _++_}
+use mathlib.Core.Logic.{inl, inr}
 use native.Mathlib.Omega.{arith}
 use native.Mathlib.Numerals.{add-one}
-use native.Mathlib.Nat.{add-zero, mod-lt, mod-eq-of-lt}
+use native.Mathlib.Nat.{mod-lt}
 use native.Mathlib.Decide.{decLt}
-use lib.ListN.{length, take, drop, getD, set, length-set, length-take, length-drop}
-use lib.Seq.{sets, sets-eq, drop-drop, getD-take, getD-drop, getD-set-same, getD-set-other, ext-getD}
-use Rattle.laws.specs.Lists.{put, tabulate, ring}
-use Rattle.laws.proofs.Lists.{length-put, put-part, getD-put-before, getD-put-after, tabulate-snoc, tabulate-ext, mod-apart, length-ring, ring-drop}
+use lib.ListN.{length, drop, getD, set, length-set}
+use lib.Seq.{sets, getD-set-same, getD-set-other}
+use Rattle.laws.specs.Lists.{put, ring}
+use Rattle.laws.proofs.Lists.{put-part, sets-put, put-apart, mod-apart, length-ring, ring-first, ring-drop, ring-more}
 use Rattle.link_state.specs.declared.Window.{Window}
 use Rattle.link_state.specs.declared.Queue.{Queue}
 use Rattle.link.specs.Making.{slot, shifted, queued, freeSlot}
 use Rattle.link_meaning.specs.Meaning.{timesOf, waitingOf}
-
--- ---- rings
-
-module _ {A : Type 0} (f : ℕ → A) where
-  -- the first of a ring
-  pub ring-first : (m p n : ℕ) → p < m → ring f m p (suc n) ≡ f p ∷ drop 1 (ring f m p (suc n))
-  unfolding ring tabulate
-  ring-first m p n h = let e : (p + 0) % m ≡ p = ap (λ (k : ℕ). k % m) (add-zero p) ∙ mod-eq-of-lt h in rw e
-
-  -- one more, where the others are the same
-  pub ring-more : (g : ℕ → A) (m p n : ℕ) (y : A) → ((i : ℕ) → i < n → g ((p + i) % m) ≡ f ((p + i) % m)) → g ((p + n) % m) ≡ y
-      → ring g m p (suc n) ≡ ring f m p n ++ (y ∷ [])
-  unfolding ring
-  ring-more g m p n y same e =
-      tabulate-snoc (λ (i : ℕ). g ((p + i) % m)) 0 n
-      ∙ (ap (λ (k : ℕ). tabulate (λ (i : ℕ). g ((p + i) % m)) 0 n ++ (g ((p + k) % m) ∷ [])) (omega arith)
-      ∙ (ap (λ (x : A). tabulate (λ (i : ℕ). g ((p + i) % m)) 0 n ++ (x ∷ [])) e
-      ∙ ap (λ (l : List A). l ++ (y ∷ [])) (tabulate-ext _ _ 0 n (λ i a b. same i (omega arith)))))
 
 -- ---- the send times
 
@@ -77,25 +59,6 @@ waiting-first q pool x xs h e =
     sym (ring-first f 16 (q .place) (q .count - 1) (omega arith)) ∙ (ap (ring f 16 (q .place)) (sym c) ∙ e) in
     (cc, sym (ring-drop f 16 (q .place) (q .count) 1 (omega arith)) ∙ d)
 
--- octets stored are a part put in
-sets-put : (d : List ℕ) (at : ℕ) (s : List ℕ) → at + length s ≤ length d → sets d at s ≡ put d at s
-unfolding put
-sets-put d at s h = sets-eq s d at h ∙ rw (append-assoc, drop-drop (length s) at d)
-
--- what lies before or after the octets stored is the same
-put-apart : (d : List ℕ) (at : ℕ) (s : List ℕ) (p n : ℕ) → at + length s ≤ length d → (p + n ≤ at) ⊎ (at + length s ≤ p)
-    → take n (drop p (put d at s)) ≡ take n (drop p d)
-put-apart d at s p n h side =
-    let long : length (take n (drop p (put d at s))) ≡ length (take n (drop p d)) =
-    simp (length-take, length-drop) (ap (λ (k : ℕ). min n (k - p)) (length-put d at s h)) in
-    ext-getD 0 _ _ long
-    (λ i l.
-    let small : i < n = (let l2 = simp length-take at l in omega arith) in
-    getD-take n (drop p (put d at s)) i 0 small
-    ∙ (getD-drop p (put d at s) i 0
-    ∙ (⊎-elim (λ before. getD-put-before d at s (p + i) 0 (omega arith) (omega arith)) (λ after. getD-put-after d at s (p + i) 0 (omega arith) h) side
-    ∙ sym (getD-take n (drop p d) i 0 small ∙ getD-drop p d i 0))))
-
 pub waiting-queued : (q : Queue) (pool x : List ℕ) → q .count < 16 → length (q .lengths) ≡ 16 → length x ≤ 249 → 3984 ≤ length pool
     → ((i : ℕ) → i < q .count → getD (q .lengths) ((q .place + i) % 16) 0 ≤ 249)
     → waitingOf (queued q (length x)) (sets pool (freeSlot q * 249) x) ≡ waitingOf q pool ++ (x ∷ [])
@@ -111,7 +74,7 @@ waiting-queued q pool x h slots long room lengths =
     let apart : here ≡ last → ⊥ = mod-apart (q .place) i (q .count) 16 l h in
     let small = lengths i l in
     rw (getD-set-other (q .lengths) last here (length x) 0 apart)
-    (put-apart pool (last * 249) x (here * 249) (getD (q .lengths) here 0) fits
+    (put-apart pool (last * 249) x (here * 249) (getD (q .lengths) here 0) 0 fits
     (elim (decLt here last) [
       | yes y ↦ inl (omega arith)
       | no y ↦ inr (omega arith)

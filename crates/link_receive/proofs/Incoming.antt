@@ -1,26 +1,25 @@
 -- A frame received: what its numbers and its reading show, what goes out for it, and what the link answers. Assumes nothing.
-use Prim.Native.Nat.{ℕ, _%_, _≤_}
+use Prim.Native.Nat.{ℕ, _≤_}
 use mathlib.Core.Path.{_≡_, refl, sym, ap, subst, _∙_}
-use mathlib.Core.Bool.{Bool, true, false, _&&_}
+use mathlib.Core.Bool.{Bool, true, false}
 use mathlib.Core.List.{List}
 use native.Mathlib.Omega.{arith}
 use native.Mathlib.Nat.{mod-lt}
 use lib.Dec.{eqb}
-use lib.ListN.{length, getD, drop}
+use lib.ListN.{length}
 use lib.Seq.{sets}
 use borrow.Author.Tests.{eqb-true, eq-eqb, ne-eqb}
 use Rattle.laws.specs.Choice.{pick}
-use Rattle.laws.specs.Numbers.{leOf}
-use Rattle.elements.specs.Refusals.{refusal, iWithoutAsdu, badUControl, badSControl, badIControl, uNotAnswered}
+use Rattle.elements.specs.Refusals.{refusal, uNotAnswered}
 use Rattle.elements.specs.declared.refusals.Refusal.{Refusal}
-use Rattle.apdu.specs.Control.{sendNumber, receiveNumber, numberAt, uOf, uOctet}
-use Rattle.apdu.specs.Reading.{outerRefusal, shortAnswer, longAnswer, frameAnswer, frameNumber}
+use Rattle.apdu.specs.Control.{uOctet}
+use Rattle.apdu.specs.Reading.{frameAnswer}
 use Rattle.apdu.specs.Writing.{startOctets}
 use Rattle.apdu.specs.declared.frame.ReceiveNumber.{ReceiveNumber}
 use Rattle.apdu.specs.declared.frame.UFrame.{UFrame}
 use Rattle.apdu.specs.declared.frame.FrameAnswer.{FrameAnswer}
 use Rattle.apdu.specs.declared.frame.FrameAnswer.the-variants as FrameAnswer
-use Rattle.asdu.specs.Reading.{readRefusal}
+use Rattle.apdu.proofs.Shapes.{refused-some}
 use Rattle.link_state.specs.Acknowledging.{confirms, ackRefusal, acknowledged, ackNumber}
 use Rattle.link_state.specs.declared.acknowledging.AckAnswer.{AckAnswer}
 use Rattle.link_state.specs.declared.acknowledging.AckAnswer.the-variants as AckAnswer
@@ -32,7 +31,7 @@ use Rattle.link.specs.Frames.{wire, stopAct, stopCon, testAct, testCon}
 use Rattle.link.specs.Making.{Making, freedOf, room, sendWaiting, setT3, startT2, become, ending, shut}
 use Rattle.link.specs.Events.{accepting, closing, start, release, sFreeing, onS, received, iFreeing, onI, testActed, testConfirmed, stopped, onU, onAnswer, onFrame}
 use Rattle.link.specs.Contracts.{Makes, HandsOut, Answers, Does, Timed, Open, doneStep, refusedStep}
-use Rattle.link_steps.proofs.Made.{makes-then, makes-become, makes-u, makes-none, ending-appends, answers-accepting, answers-closing}
+use Rattle.link_steps.proofs.Made.{makes-become, makes-u, makes-none, answers-accepting, answers-ending, answers-closing}
 use Rattle.link_steps.proofs.Flushing.{after-flush, can-flush, flush-short}
 use Rattle.link_steps.proofs.Unchanged.{ending-times}
 
@@ -150,8 +149,7 @@ module _ (s : State) (number : ℕ) (ts ps out : List ℕ) (more : Bool) (now : 
   s-frees {d} is let-out timed finished accepted =
       let g = release d now s ts ps in
       let one = makes-become (setT3 now) (let-out .makes) timed in
-      let two = makes-then (ending-appends more now) one (one .state) (finished (g .times)) in
-      rw (right is) (record { answers = answers-accepting false ps two accepted; ring = let-out .ring ∙ sym (ending-times more now (become (setT3 now) g)) })
+      rw (right is) (record { answers = answers-ending false more now ps one (one .state) finished accepted; ring = let-out .ring ∙ sym (ending-times more now (become (setT3 now) g)) })
 
   pub i-frees : (sent : ℕ) {d : ℕ} {m ended : Made} {c t₂ t : State} {r : Step} {ts₁ out₁ out₂ : List ℕ} → sent ≡ s .receive .next .0 → a ≡ AckAnswer.Frees d
       → c ≡ received s → HandsOut (release d now c ts ps) 0 out m ts₁ out₁ → t₂ ≡ startT2 now (m .state) → t ≡ setT3 now t₂
@@ -163,8 +161,7 @@ module _ (s : State) (number : ℕ) (ts ps out : List ℕ) (more : Bool) (now : 
       let f : State → State = λ x. setT3 now (startT2 now x) in
       let let-out′ : HandsOut g 0 out m ts₁ out₁ = rw counted at let-out in
       let one = makes-become f (let-out′ .makes) (timed ∙ ap (setT3 now) started) in
-      let two = makes-then (ending-appends more now) one (one .state) (finished (g .times)) in
-      rw (eq-eqb sent (s .receive .next .0) e, right is) (record { answers = answers-accepting true ps two accepted; ring = let-out′ .ring ∙ sym (ending-times more now (become f g)) })
+      rw (eq-eqb sent (s .receive .next .0) e, right is) (record { answers = answers-ending true more now ps one (one .state) finished accepted; ring = let-out′ .ring ∙ sym (ending-times more now (become f g)) })
 
 -- ---- U frames
 
@@ -206,55 +203,6 @@ module _ (u : UFrame) (s : State) (ts ps out : List ℕ) (more : Bool) (now : �
 
 -- ---- the reading
 
-abbrev accepted : FrameAnswer → Bool
-accepted (FrameAnswer.I s r) = true
-accepted (FrameAnswer.S r) = true
-accepted (FrameAnswer.U u) = true
-accepted (FrameAnswer.Refused r) = false
-
--- an answer's number is 0 exactly for a frame
-record Told (a : FrameAnswer) : Type 0 where
-  number : eqb (frameNumber a) 0 ≡ accepted a
-
-told-refusal : (k : ℕ) (x : FrameAnswer) → Told x → Told (pick (eqb k 0) x (FrameAnswer.Refused (refusal k)))
-told-refusal k x h = by (eqb k 0) refl
-  where
-    by : (b : Bool) → eqb k 0 ≡ b → Told (pick b x (FrameAnswer.Refused (refusal k)))
-    by true e = h
-    by false e = record { number = e }
-
-short-told : (f : List ℕ) → Told (shortAnswer f)
-unfolding shortAnswer
-short-told f = by (eqb (getD f 2 0 % 4) 3) (eqb (getD f 3 0) 0 && eqb (leOf 2 (drop 4 f)) 0) (eqb (getD f 2 0 % 4) 1) (eqb (leOf 2 (drop 2 f)) 1)
-  where
-    by : (a b c d : Bool)
-        → Told (pick a (pick b (FrameAnswer.U (uOf (getD f 2 0))) (FrameAnswer.Refused (refusal badUControl)))
-        (pick c (pick d (FrameAnswer.S (receiveNumber (numberAt 4 f))) (FrameAnswer.Refused (refusal badSControl))) (FrameAnswer.Refused (refusal iWithoutAsdu))))
-    by true true c d = record { number = refl }
-    by true false c d = record { number = refl }
-    by false b true true = record { number = refl }
-    by false b true false = record { number = refl }
-    by false b false d = record { number = refl }
-
-long-told : (f : List ℕ) → Told (longAnswer f)
-unfolding longAnswer
-long-told f = by (eqb (getD f 2 0 % 2) 0 && eqb (getD f 4 0 % 2) 0) (told-refusal (readRefusal (drop 6 f)) frame (record { number = refl }))
-  where
-    frame : FrameAnswer
-    frame = FrameAnswer.I (sendNumber (numberAt 2 f)) (receiveNumber (numberAt 4 f))
-
-    by : (b : Bool) {x : FrameAnswer} → Told x → Told (pick b x (FrameAnswer.Refused (refusal badIControl)))
-    by true h = h
-    by false h = record { number = refl }
-
-frame-told : (f : List ℕ) → Told (frameAnswer f)
-unfolding frameAnswer
-frame-told f = told-refusal (outerRefusal f) (pick (eqb (getD f 1 0) 4) (shortAnswer f) (longAnswer f)) (by (eqb (getD f 1 0) 4))
-  where
-    by : (b : Bool) → Told (pick b (shortAnswer f) (longAnswer f))
-    by true = short-told f
-    by false = long-told f
-
 module _ (f : List ℕ) (s : State) (ts ps out : List ℕ) (more : Bool) (now : ℕ) {a : FrameAnswer} (read : a ≡ frameAnswer f) {r : Step} {ts₁ out₁ : List ℕ} where
   -- what is answered to the reading is answered to the frame
   pub frame-answered : {b : FrameAnswer} → a ≡ b → Does (onAnswer b s ts ps more now) out r ts₁ out₁ → Does (onFrame f more s ts ps now) out r ts₁ out₁
@@ -264,5 +212,5 @@ module _ (f : List ℕ) (s : State) (ts ps out : List ℕ) (more : Bool) (now : 
   pub frame-refused : {x : Refusal} → a ≡ FrameAnswer.Refused x → ts₁ ≡ ts → out₁ ≡ out → r ≡ refusedStep (shut (x .0) s) (x .0) → Does (onFrame f more s ts ps now) out r ts₁ out₁
   unfolding onAnswer closing
   frame-refused {x} is same-ring same closed =
-      let some : eqb (x .0) 0 ≡ false = subst Told (sym read ∙ is) (frame-told f) .number in
+      let some = refused-some f x (sym read ∙ is) in
       frame-answered is (rw (same-ring, same) (record { answers = answers-closing (x .0) s ts ps out some closed; ring = refl }))

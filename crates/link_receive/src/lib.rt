@@ -14,6 +14,7 @@ use apdu::frame::ReceiveNumber;
 use apdu::frame::SendNumber;
 use apdu::frame::UFrame;
 use apdu::reading;
+use apdu::writing;
 use elements::refusals::Refusal;
 use link::answers::Called;
 use link::answers::LinkAnswer;
@@ -25,7 +26,6 @@ use link_state::State;
 use link_state::acknowledging;
 use link_state::acknowledging::AckAnswer;
 use link_state::limits;
-use link_steps::putting;
 use link_steps::steps;
 use link_steps::waiting;
 
@@ -127,7 +127,7 @@ fn on_test_act(s: State, out: &mut [u8], more: bool, moment: u64) -> Step
     requires { ⌜ Calm s (length (now out)) moment ⌝ }
     ensures { λ r. ⌜ ((ts ps : List ℕ) → Answers (testActed s ts ps more moment) (now (out .entry)) r (now (out .exit))) ⌝ }
 {
-    putting::put_start(&mut *out, 0, 4, steps::TEST_CON, 0);
+    writing::put_start(&mut *out, 0, 4, steps::TEST_CON, 0);
     let stamped = steps::set_t3(s, moment);
     let ended = steps::finish(stamped, out, 6, more, moment);
     steps::accept(ended, false)
@@ -167,7 +167,7 @@ fn on_u(s: State, out: &mut [u8], u: UFrame, more: bool, moment: u64) -> Step
         return on_test_con(s, out, more, moment);
     }
     if octet == steps::STOP_ACT {
-        putting::put_start(out, 0, 4, steps::STOP_CON, 0);
+        writing::put_start(out, 0, 4, steps::STOP_CON, 0);
         return end_by_stop(s, 6, moment);
     }
     if octet == steps::STOP_CON {

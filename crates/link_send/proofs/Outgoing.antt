@@ -1,20 +1,16 @@
 -- An ASDU to send: what its check shows, and what the link answers. Assumes nothing.
 use Prim.Native.Nat.{ℕ, _≤_}
 use mathlib.Core.Path.{_≡_, refl, sym, subst, _∙_}
-use mathlib.Core.Bool.{Bool, true, false}
+use mathlib.Core.Bool.{false}
 use mathlib.Core.List.{List}
 use lib.Dec.{eqb}
 use lib.ListN.{length}
-use borrow.Author.Tests.{eqb-true}
-use Rattle.laws.specs.Choice.{pick}
-use Rattle.elements.specs.Refusals.{refusal, notPlainForm}
+use Rattle.elements.specs.Refusals.{notPlainForm}
 use Rattle.elements.specs.declared.refusals.Refusal.{Refusal}
-use Rattle.asdu.specs.Header.{headerAnswer}
-use Rattle.asdu.specs.Reading.{readRefusal}
-use Rattle.asdu.specs.Plain.{plainBy, plainAnswer}
+use Rattle.asdu.specs.Plain.{plainAnswer}
 use Rattle.asdu.specs.declared.PlainAnswer.{PlainAnswer}
 use Rattle.asdu.specs.declared.PlainAnswer.the-variants as PlainAnswer
-use Rattle.apdu.proofs.Answers.{octets-small}
+use Rattle.asdu.proofs.Passed.{plain-sized, plain-refused}
 use Rattle.link_state.specs.declared.State.{State}
 use Rattle.link.specs.declared.answers.Step.{Step}
 use Rattle.link.specs.Events.{refusing, sendBy, onSend}
@@ -25,25 +21,9 @@ pub refuses : (k : ℕ) (s : State) (ts ps out : List ℕ) {r : Step} → eqb k 
 unfolding refusing
 refuses k s ts ps out some e = record { does = record { answers = answers-refusing k s ts ps out some e; ring = refl }; pool = refl }
 
--- what an answer shows
-abbrev Told : List ℕ → PlainAnswer → Type 0
-Told asdu PlainAnswer.Plain = length asdu ≤ 249
-Told asdu PlainAnswer.Reserved = length asdu ≤ 249
-Told asdu (PlainAnswer.Refused r) = eqb (r .0) 0 ≡ false
-
-plain-told : (asdu : List ℕ) → Told asdu (plainAnswer asdu)
-unfolding plainAnswer
-plain-told asdu = by (eqb (readRefusal asdu) 0) refl (plainBy (headerAnswer asdu) asdu)
-  where
-    by : (b : Bool) → eqb (readRefusal asdu) 0 ≡ b → (c : Bool)
-        → Told asdu (pick b (pick c PlainAnswer.Plain PlainAnswer.Reserved) (PlainAnswer.Refused (refusal (readRefusal asdu))))
-    by true e true = octets-small asdu (eqb-true _ _ e)
-    by true e false = octets-small asdu (eqb-true _ _ e)
-    by false e c = e
-
 module _ (asdu : List ℕ) {a : PlainAnswer} (read : a ≡ plainAnswer asdu) where
   pub plain-small : a ≡ PlainAnswer.Plain → length asdu ≤ 249
-  plain-small is = subst (Told asdu) (sym read ∙ is) (plain-told asdu)
+  plain-small is = plain-sized asdu (sym read ∙ is) .1
 
   module _ (s : State) (ts ps out : List ℕ) (now : ℕ) {r : Step} {ts₁ ps₁ out₁ : List ℕ} where
     -- what is answered to the check is answered to the ASDU
@@ -58,6 +38,4 @@ module _ (asdu : List ℕ) {a : PlainAnswer} (read : a ≡ plainAnswer asdu) whe
 
     pub send-refused : {x : Refusal} → a ≡ PlainAnswer.Refused x → r ≡ refusedStep s (x .0) → DoesSend (onSend asdu s ts ps now) out r ts ps out
     unfolding sendBy
-    send-refused {x} is e =
-        let some : eqb (x .0) 0 ≡ false = subst (Told asdu) (sym read ∙ is) (plain-told asdu) in
-        send-answered s ts ps out now is (refuses (x .0) s ts ps out some e)
+    send-refused {x} is e = send-answered s ts ps out now is (refuses (x .0) s ts ps out (plain-refused asdu x (sym read ∙ is)) e)

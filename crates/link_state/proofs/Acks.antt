@@ -7,7 +7,7 @@ use Rattle.laws.proofs.Choices.{held}
 use Rattle.elements.specs.Refusals.{refusal, outsideLimits, wrongReceiveNumber}
 use Rattle.link_state.specs.Acknowledging.{confirms, numbersInLimits, ackRefusal, acknowledged}
 use Rattle.link_state.specs.declared.acknowledging.AckAnswer.the-variants.{Frees, Refused}
-use Rattle.link_state.proofs.Clauses.{and-iff, leb-iff}
+use Rattle.laws.proofs.Clauses.{and-iff, leb-iff}
 
 module _ (next window received : ℕ) where
   pub in-limits : numbersInLimits next window received ≡ true → (next ≤ 32767) × (window ≤ 32767) × (received ≤ 32767)

@@ -1,3 +1,2 @@
-pub mod Clauses
 pub mod Acks
 pub mod Sound

@@ -16,7 +16,7 @@ use Rattle.link_state.specs.declared.Deadline.{Deadline}
 use Rattle.link_state.specs.declared.Timers.{Timers}
 use Rattle.link_state.specs.declared.State.{State}
 use Rattle.link_state.specs.declared.Link.{Link}
-use Rattle.link_state.proofs.Clauses.{leb-iff, eqb-iff, and-iff, or-iff, set-iff, every-iff}
+use Rattle.laws.proofs.Clauses.{leb-iff, eqb-iff, and-iff, or-iff, set-iff, every-iff}
 
 -- ---- settings and counts
 

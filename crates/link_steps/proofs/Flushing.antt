@@ -11,7 +11,8 @@ use Rattle.link.specs.Frames.{iFrame, octetsOf, wire}
 use Rattle.link.specs.Making.{Making, withQueue, sentOf, handOut, shifted, slot, firstWaiting, letOut, flushed, room}
 use Rattle.link.specs.Events.{start}
 use Rattle.link.specs.Contracts.{HandsOut, CanLetOut, CanFlush, Open}
-use Rattle.link_steps.proofs.Stored.{wire-append, wire-one, i-length}
+use Rattle.apdu.proofs.Answers.{i-long}
+use Rattle.link.proofs.Wires.{wire-append, wire-one}
 use Rattle.link_steps.proofs.Made.{letOut-appends}
 
 pub slot-length : (pool : List ℕ) (place n : ℕ) → place ≤ 15 → n ≤ 249 → 3984 ≤ length pool → length (slot pool place n) ≡ n
@@ -85,7 +86,7 @@ unfolding handOut octetsOf
 hand-out-short now s ts asdu h =
     let a = s .window .next .0 in
     let b = s .receive .next .0 in
-    rw (wire-one (iFrame a b asdu), i-length a b asdu) (omega arith)
+    rw (wire-one (iFrame a b asdu), i-long a b asdu) (omega arith)
 
 pub let-out-short : (now : ℕ) (s : State) (ts pool : List ℕ) → getD (s .queue .lengths) (s .queue .place) 0 ≤ 249 → length (wire (letOut now pool (start s ts) .frames)) ≤ 255
 unfolding letOut firstWaiting

@@ -1,4 +1,3 @@
-pub mod Stored
 pub mod Made
 pub mod Flushing
 pub mod Unchanged

@@ -20,7 +20,8 @@ use Rattle.link.specs.Frames.{Frame, iFrame, sFrame, uWith, octetsOf, wire, tes
 use Rattle.link.specs.Making.{Making, become, say, sentOf, confirm, confirmedOf, tested, testedOf, ending, handOut, letOut, due, withClock, shut}
 use Rattle.link.specs.Events.{start, accepting, closing, refusing}
 use Rattle.link.specs.Contracts.{Makes, HandsOut, Answers, madeOf, doneStep, refusedStep, stepFor, answerOf}
-use Rattle.link_steps.proofs.Stored.{wire-append, wire-one, i-length, s-length, u-length}
+use Rattle.apdu.proofs.Answers.{i-long, s-long, u-long}
+use Rattle.link.proofs.Wires.{wire-append, wire-one}
 
 -- frames before those of a call in the making
 abbrev pub after : List Frame → Making → Making
@@ -64,7 +65,7 @@ pub makes-u : (octet : ℕ) (s : State) (ts : List ℕ) (at : ℕ) (out : List �
     → end ≡ at + 6 → out₁ ≡ sets out at (startOctets 4 (uOctet (uOf octet)) 0)
     → Makes (say (uWith octet) (start s ts)) at out (record { state = s; end = end }) out₁
 unfolding octetsOf uOctets
-makes-u octet s ts at out e o = makes-say (uWith octet) s ts at out (e ∙ ap (λ (n : ℕ). at + n) (sym (u-length (uOf octet)))) o
+makes-u octet s ts at out e o = makes-say (uWith octet) s ts at out (e ∙ ap (λ (n : ℕ). at + n) (sym (u-long (uOf octet)))) o
 
 -- nothing yet
 pub makes-none : (s : State) (ts : List ℕ) (at : ℕ) (out : List ℕ) → Makes (start s ts) at out (record { state = s; end = at }) out
@@ -79,7 +80,7 @@ makes-confirm s ts at out e o =
     let f = sFrame (s .receive .next .0) in
     record {
       state = ap (λ (r : Made). r .state) e;
-      end = ap (λ (r : Made). r .end) e ∙ rw (wire-one f, s-length (s .receive .next .0));
+      end = ap (λ (r : Made). r .end) e ∙ rw (wire-one f, s-long (s .receive .next .0));
       octets = o ∙ rw (wire-one f);
     }
 
@@ -90,7 +91,7 @@ makes-tested now s ts at out e o =
     let f = uWith testAct in
     record {
       state = ap (λ (r : Made). r .state) e;
-      end = ap (λ (r : Made). r .end) e ∙ rw (wire-one f, u-length (uOf testAct));
+      end = ap (λ (r : Made). r .end) e ∙ rw (wire-one f, u-long (uOf testAct));
       octets = o ∙ rw (wire-one f);
     }
 
@@ -108,7 +109,7 @@ hands-out now s ts asdu at out {out₁ = out₁} e f one two ring =
     record {
       makes = record {
         state = e;
-        end = f ∙ rw (w, i-length a b asdu) (add-assoc at 6 (length asdu));
+        end = f ∙ rw (w, i-long a b asdu) (add-assoc at 6 (length asdu));
         octets = two ∙ rw (one, w) (sym (sets-append out at (startOctets (4 + length asdu) (a * 2) (b * 2)) asdu));
       };
       ring = ring;
@@ -120,19 +121,11 @@ pub confirm-appends : Appends confirm
 unfolding confirm
 confirm-appends g = refl
 
-pub tested-appends : (now : ℕ) → Appends (tested now)
-unfolding tested
-tested-appends now g = refl
-
-pub handOut-appends : (now : ℕ) (asdu : List ℕ) → Appends (handOut now asdu)
-unfolding handOut
-handOut-appends now asdu g = refl
-
 pub letOut-appends : (now : ℕ) (pool : List ℕ) → Appends (letOut now pool)
 unfolding letOut handOut
 letOut-appends now pool g = refl
 
-pub ending-appends : (more : Bool) (now : ℕ) → Appends (ending more now)
+ending-appends : (more : Bool) (now : ℕ) → Appends (ending more now)
 unfolding ending confirm
 ending-appends more now g = go (due (g .state) more)
   where
@@ -149,6 +142,13 @@ pub answers-accepting : (came : Bool) (pool : List ℕ) {g : Making} {out out₁
     → Makes g 0 out m out₁ → r ≡ doneStep (m .state) (m .end) came → Answers (accepting came pool g) out r out₁
 unfolding accepting stepFor answerOf doneStep
 answers-accepting came pool one e = record { step = rw (e, one .state, one .end, zero-add); octets = one .octets }
+
+-- the end of an accepted call: the clock and the rule of confirming, then the answer
+pub answers-ending : (came more : Bool) (now : ℕ) (pool : List ℕ) {g : Making} {out out₁ out₂ : List ℕ} {m ended : Made} {s : State} {r : Step}
+    → Makes g 0 out m out₁ → s ≡ g .state → ((ts : List ℕ) → Makes (ending more now (start s ts)) (m .end) out₁ ended out₂)
+    → r ≡ doneStep (ended .state) (ended .end) came → Answers (accepting came pool (ending more now g)) out r out₂
+answers-ending came more now pool {g} one same finished e =
+    answers-accepting came pool (makes-then (ending-appends more now) one same (finished (g .times))) e
 
 pub answers-closing : (k : ℕ) (s : State) (ts pool out : List ℕ) {r : Step}
     → eqb k 0 ≡ false → r ≡ refusedStep (shut k s) k → Answers (closing k s ts pool) out r out

@@ -8,7 +8,7 @@ ghost use Rattle.apdu.specs.Writing.{startOctets, sOctets};
 ghost use Rattle.link.specs.Making.{freedOf, sentOf, confirmedOf, due, testedOf, ending, setT1u, setT3, startT2, shut, handOut};
 ghost use Rattle.link.specs.Events.{start};
 ghost use Rattle.link.specs.Contracts.{madeOf, doneStep, refusedStep, Makes, HandsOut, Timed, CanSend};
-use crate::putting;
+use apdu::writing;
 use elements::refusals::Refusal;
 use link::answers::Done;
 use link::answers::LinkAnswer;
@@ -129,7 +129,7 @@ pub fn confirm(s: State, out: &mut [u8], at: usize) -> Made
     ensures { λ r. ⌜ r ≡ madeOf (confirmedOf s) (at + 6) ⌝ }
     ensures { λ _. ⌜ now (out .exit) ≡ sets (now (out .entry)) at (sOctets (s .receive .next .0)) ⌝ }
 {
-    putting::put_start(out, at, 4, 1, s.receive.next.0 * 2);
+    writing::put_start(out, at, 4, 1, s.receive.next.0 * 2);
     let unset = Deadline { on: false, at: 0 };
     let mut timers = s.timers;
     timers.t2 = unset;
@@ -167,7 +167,7 @@ pub fn send_test(s: State, out: &mut [u8], at: usize, moment: u64) -> Made
     ensures { λ _. ⌜ now (out .exit) ≡ sets (now (out .entry)) at (startOctets 4 67 0) ⌝ }
 {
     let end = at + 6;
-    putting::put_start(out, at, 4, TEST_ACT, 0);
+    writing::put_start(out, at, 4, TEST_ACT, 0);
     let t1_end = moment + s.settings.t1;
     let t3_end = moment + s.settings.t3;
     let tests = s.timers.tests + 1;
@@ -223,8 +223,8 @@ pub fn hand_out(
     times[place] = moment;
     let a = s.window.next.0 * 2;
     let b = s.receive.next.0 * 2;
-    putting::put_start(&mut *out, at, (4 + size) as u8, a, b);
-    putting::put_octets(out, body, asdu);
+    writing::put_start(&mut *out, at, (4 + size) as u8, a, b);
+    laws::put_octets(out, body, asdu);
     let m = sent(s);
     Made { state: m, end }
 }

@@ -6,7 +6,6 @@ ghost use lib.Seq.{sets};
 ghost use Rattle.link.specs.Making.{withQueue, shifted, queued, freeSlot, letOut, flushed, room, sendWaiting};
 ghost use Rattle.link.specs.Events.{start};
 ghost use Rattle.link.specs.Contracts.{HandsOut, CanLetOut, CanFlush, Open};
-use crate::putting;
 use crate::steps;
 use link::answers::Made;
 use link_state::State;
@@ -22,7 +21,7 @@ pub fn enqueue(s: State, pool: &mut [u8], asdu: &[u8]) -> State
     let size = asdu.len();
     let count = s.queue.count;
     let place = (s.queue.place + count) % 16;
-    putting::put_octets(pool, place * SLOT, asdu);
+    laws::put_octets(pool, place * SLOT, asdu);
     let mut q = s.queue;
     q.lengths[place] = size;
     q.count = count + 1;

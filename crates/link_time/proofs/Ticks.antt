@@ -13,7 +13,8 @@ use Rattle.link.specs.Frames.{Frame, sFrame, uWith, testAct, octetsOf, wire}
 use Rattle.link.specs.Making.{confirm, confirmedOf, tested, testedOf}
 use Rattle.link.specs.Events.{start, isDue, tickedT2, tickedT3}
 use Rattle.link.specs.Contracts.{Calm}
-use Rattle.link_steps.proofs.Stored.{wire-one, s-length, u-length}
+use Rattle.apdu.proofs.Answers.{s-long, u-long}
+use Rattle.link.proofs.Wires.{wire-one}
 use Rattle.link_steps.proofs.Made.{Appends, after}
 
 module _ (s : State) (ts : List ℕ) (outLen now : ℕ) where
@@ -30,7 +31,7 @@ module _ (s : State) (ts : List ℕ) (outLen now : ℕ) where
   short-t2 = go (isDue (s .timers .t2) now)
     where
       go : (b : Bool) → length (wire (pick b (confirm (start s ts)) (start s ts) .frames)) ≤ 6
-      go true = rw (wire-one (sFrame (s .receive .next .0)), s-length (s .receive .next .0)) (omega arith)
+      go true = rw (wire-one (sFrame (s .receive .next .0)), s-long (s .receive .next .0)) (omega arith)
       go false = omega arith
 
   pub short-t3 : (t3 : Deadline) → length (wire (tickedT3 t3 now (start s ts) .frames)) ≤ 6
@@ -38,7 +39,7 @@ module _ (s : State) (ts : List ℕ) (outLen now : ℕ) where
   short-t3 t3 = go (isDue t3 now)
     where
       go : (b : Bool) → length (wire (pick b (tested now (start s ts)) (start s ts) .frames)) ≤ 6
-      go true = rw (wire-one (uWith testAct), u-length (uOf testAct)) (omega arith)
+      go true = rw (wire-one (uWith testAct), u-long (uOf testAct)) (omega arith)
       go false = omega arith
 
   pub next-t3 : (t3 : Deadline) → tickedT3 t3 now (start s ts) .state .receive .next .0 ≡ s .receive .next .0

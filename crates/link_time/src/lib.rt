@@ -8,6 +8,7 @@ ghost use Rattle.elements.specs.Refusals.{refusal};
 ghost use mathlib.Core.List.{List};
 ghost use Rattle.link.specs.Events.{start, isDue, t1iDue, tickRefusal, tickedT2, tickedT3, onStop, onTest, onTick, called, stop, test, tick};
 ghost use Rattle.link.specs.Contracts.{Answers, Makes, Calm, Aged, calledOf};
+use apdu::writing;
 use elements::refusals::Refusal;
 use link::answers::Called;
 use link::answers::LinkAnswer;
@@ -17,14 +18,13 @@ use link_state::Deadline;
 use link_state::Link;
 use link_state::State;
 use link_state::limits;
-use link_steps::putting;
 use link_steps::steps;
 
 fn on_stop(s: State, out: &mut [u8], moment: u64) -> Step
     requires { ⌜ Calm s (length (now out)) moment ⌝ }
     ensures { λ r. ⌜ ((ts ps : List ℕ) → Answers (onStop s ts ps moment) (now (out .entry)) r (now (out .exit))) ⌝ }
 {
-    putting::put_start(&mut *out, 0, 4, steps::STOP_ACT, 0);
+    writing::put_start(&mut *out, 0, 4, steps::STOP_ACT, 0);
     let made = steps::confirm(s, &mut *out, 6);
     let timed = steps::set_t1u(made.state, moment);
     let ended = steps::finish(timed, out, made.end, false, moment);

@@ -23,12 +23,14 @@ use Rattle.asdu.specs.declared.WriteAnswer.the-variants as WriteAnswer
 use Rattle.asdu.specs.declared.header.Header.{Header}
 use Rattle.asdu.specs.declared.header.HeaderAnswer.{HeaderAnswer}
 use Rattle.asdu.specs.declared.header.HeaderAnswer.the-variants as HeaderAnswer
+use Rattle.asdu.proofs.Passed.{plain-refused}
 use Rattle.apdu.specs.Control.{numberAt, uOf, uOctet}
 use Rattle.apdu.specs.Reading.{frameAnswer, frameNumber, asduPartBy, asduPart}
 use Rattle.apdu.specs.Writing.{answerFor, outputFor}
 use Rattle.apdu.specs.declared.frame.UFrame.{UFrame}
 use Rattle.apdu.specs.declared.frame.FrameAnswer.{FrameAnswer}
 use Rattle.apdu.specs.declared.frame.FrameAnswer.the-variants as FrameAnswer
+use Rattle.apdu.proofs.Shapes.{number-fits, Shape, i-shape, s-shape, u-shape, refused-shape, shape}
 use Rattle.assembly.specs.Picking.{pickAnswer, pickNumber, pickPartBy, pickPart}
 use Rattle.assembly.specs.Topping.{topUpAnswer, topUpNumber, movedIn, topped}
 use Rattle.assembly.specs.Stepping.{stepAnswer, stepNumber, stepMoved, stepCarry}
@@ -53,15 +55,13 @@ use Rattle.link.specs.Events.{Outcome, refusing, closing, accepting, sFreeing, 
 use Rattle.link.specs.Contracts.{answerOf, calledOf, linkFull, linkCame}
 use Rattle.link.specs.declared.answers.LinkAnswer.the-variants as LinkAnswer
 use Rattle.link_meaning.specs.Meaning.{OctetsIn}
-use Rattle.link_meaning.proofs.Effects.{not-refused}
 use Rattle.promises.specs.Demand3.{Call, outcomeOf, entryOf, framed, brings}
 use Rattle.promises.specs.Demand1.{closes, closedBy, isI, moreToCome, LinkCall, Demand1Level}
 use Rattle.promises.proofs.Answered.{answers}
 use Rattle.promises.proofs.Acknowledged.{ack-is}
 use Rattle.promises.proofs.Ranges.{read-most, frame-most}
-use Rattle.promises.proofs.FrameAgain.{Shape, i-shape, s-shape, u-shape, refused-shape, shape}
 use Rattle.promises.proofs.Demand3Pool.{pool-is}
-use Rattle.promises.proofs.Demand3.{number-is, number-low}
+use Rattle.promises.proofs.Demand3.{number-is}
 use Rattle.promises.proofs.Demand3Runs.{Range, none, from-19-to-24, first-range}
 
 -- ---- reading, writing, assembling, opening
@@ -249,7 +249,7 @@ module _ (s : State) (times pool : List ℕ) (now : ℕ) where
     acknowledges : acknowledged (s .window .next .0) (s .window .held) (numberAt 4 f)
         ≡ pick (leb confirmed (s .window .held)) (AckAnswer.Frees confirmed) (AckAnswer.Refused (refusal wrongReceiveNumber))
     unfolding confirmed
-    acknowledges = ack-is (s .window .next .0) (s .window .held) (numberAt 4 f) (sound .next-high) held-low (number-low f o)
+    acknowledges = ack-is (s .window .next .0) (s .window .held) (numberAt 4 f) (sound .next-high) held-low (number-fits f 4 o)
 
     frame-ending : Ending came-in s times pool now (onFrame f more s times pool now)
     unfolding onAnswer onI onS
@@ -280,7 +280,7 @@ module _ (s : State) (times pool : List ℕ) (now : ℕ) where
   send-by asdu PlainAnswer.Plain e h = plain-ending asdu
   send-by asdu PlainAnswer.Reserved e h = kept notPlainForm (stays (send asdu) 26 (omega arith) (omega arith)) (omega arith) (omega arith) refl
   send-by asdu (PlainAnswer.Refused r) e h =
-      let some = eqb-false (r .0) 0 (not-refused asdu r e) in
+      let some = eqb-false (r .0) 0 (plain-refused asdu r e) in
       kept (r .0) (send-stays asdu (r .0) (omega arith)) (omega arith) (omega (arith, some)) refl
 
   send-ending : (asdu : List ℕ) → Ending (send asdu) s times pool now (onSend asdu s times pool now)

@@ -13,13 +13,13 @@ use Rattle.laws.specs.Choice.{pick}
 use Rattle.laws.specs.Lists.{Octets, ring}
 use Rattle.laws.specs.Window.{Confirms, freed}
 use Rattle.laws.specs.Promises.{WindowLaw}
-use Rattle.laws.proofs.Lists.{octets-drop, sets-all, getD-tabulate}
-use Rattle.laws.proofs.Numbers.{le-fits}
+use Rattle.laws.proofs.Lists.{sets-all, getD-tabulate}
 use Rattle.laws.proofs.Window.{window}
 use Rattle.elements.specs.Refusals.{refusal}
-use Rattle.apdu.specs.Control.{numberAt}
 use Rattle.apdu.specs.Reading.{frameAnswer, asduPart}
 use Rattle.apdu.specs.declared.frame.FrameAnswer.{FrameAnswer}
+use Rattle.apdu.specs.declared.frame.FrameAnswer.the-variants as FrameAnswer
+use Rattle.apdu.proofs.Shapes.{numberIn, number-low}
 use Rattle.assembly.specs.Streams.{rest, StreamOutcome, stream}
 use Rattle.link_state.specs.Limits.{callRefusal}
 use Rattle.link_state.specs.Opening.{opened, openRefusal}
@@ -33,34 +33,29 @@ use Rattle.link.specs.Events as events
 use Rattle.link.specs.Contracts.{answerOf, calledOf, linkNumber, linkWritten}
 use Rattle.link.specs.declared.answers.LinkAnswer.{LinkAnswer}
 use Rattle.link.specs.declared.answers.LinkAnswer.the-variants as LinkAnswer
+use Rattle.link.proofs.Wires.{wire-append}
 use Rattle.link_meaning.specs.Abstract.{Abstract, Result, fresh, step}
-use Rattle.link_meaning.specs.Meaning.{OctetsIn, waitingOf, timesOf, SameOutcome}
+use Rattle.link_meaning.specs.Effects.{asdusOf}
+use Rattle.link_meaning.specs.Meaning.{OctetsIn, waitingOf, timesOf, Same}
 use Rattle.link_meaning.specs.Runs.{Agrees}
 use Rattle.link_meaning.specs.Runs as totals
 use Rattle.link_meaning.proofs.Meaning.{steps-alike, opens-fresh}
 use Rattle.link_meaning.proofs.Runs.{runs-agree}
 use Rattle.promises.specs.Demand3.{Call, outcomeOf, answered, poolAfter, Entry, entryOf, Run, opening, after, cut, iFramesIn, iFrames, allHanded, S, sendTimes, asdusIn, haveLeft, Brought, framed, brings, confirmedBy, R, A, takenBy, taken, Numbered, Claim, Begun, Demand3}
-use Rattle.promises.proofs.FrameAgain.{Shape, i-shape, s-shape, u-shape, refused-shape, shape}
 use Rattle.promises.proofs.Demand3Pool.{pool-is}
-use Rattle.promises.proofs.Demand3Wire.{AllFit, allOf, each, sentIn, stream-wire, all-fit, asdus-out, numbers-out, fit-append, each-append, kept-append, wire-append}
-use Rattle.promises.proofs.Demand3Steps.{AllPlain, Exact, Stepped, numberOf, stepped}
+use Rattle.promises.proofs.Demand3Wire.{AllFit, allOf, each, stream-wire, all-fit, asdus-out, numbers-out, fit-append, each-append, kept-append}
+use Rattle.promises.proofs.Demand3Steps.{AllPlain, Exact, Stepped, numberOf, stepped, exactly}
 
 -- ---- what a frame brings
 
-pub number-low : (f : List ℕ) → Octets f → numberAt 4 f ≤ 32767
-number-low f o = let h = le-fits 2 (drop 4 f) (octets-drop 4 f o) in omega arith
-
 frame-low : (f : List ℕ) → Octets f → numberOf (framed (frameAnswer f)) ≤ 32767
-frame-low f o = by (shape f)
+frame-low f o = by (frameAnswer f) (number-low f o)
   where
-    at-most : {a : FrameAnswer} → frameAnswer f ≡ a → numberOf (framed a) ≤ 32767 → numberOf (framed (frameAnswer f)) ≤ 32767
-    at-most e h = rw e h
-
-    by : Shape f → numberOf (framed (frameAnswer f)) ≤ 32767
-    by (i-shape c e) = at-most e (number-low f o)
-    by (s-shape c e) = at-most e (number-low f o)
-    by (u-shape c e) = at-most e (omega arith)
-    by (refused-shape r n e) = at-most e (omega arith)
+    by : (a : FrameAnswer) → numberIn a ≤ 32767 → numberOf (framed a) ≤ 32767
+    by (FrameAnswer.I n r) h = h
+    by (FrameAnswer.S r) h = h
+    by (FrameAnswer.U u) h = h
+    by (FrameAnswer.Refused r) h = h
 
 brings-low : (e : Event) → OctetsIn e → numberOf (brings e) ≤ 32767
 brings-low (frame f more) o = frame-low f o
@@ -146,7 +141,7 @@ plain-rest (x ∷ xs) ys h = plain-rest xs ys (h .1)
 module _ (s : Settings) (e : Entry) (past : List Entry) (a : Abstract) (r : Result) (c : Counted s past a) (st : Stepped (brings (e .event)) (e .now) a r)
     (number : e .number ≡ r .refused) (bytes : e .handed ≡ wire (r .frames)) where
   out : List (List ℕ)
-  out = sentIn (r .frames)
+  out = asdusOf (r .frames)
 
   fit : AllFit (r .frames)
   fit = all-fit (st .base .sent) (st .base .received) (r .frames) (st .went .carries)
@@ -320,7 +315,7 @@ module _ (s : Settings) (start : ℕ) (pool : List ℕ) (past : List Entry) (l :
   alike = steps-alike (c .event) l between (length (c .output)) (c .now) (k .link) (agrees .shaped) o free (agrees .means)
 
   done : Stepped (brings (c .event)) (c .now) (k .link) result
-  done = stepped (c .now) (k .link) (agrees .within) few (k .counted .plain) (c .event) (brings-low (c .event) o)
+  done = stepped (c .now) (k .link) (agrees .within) few (k .counted .plain) (c .event)
 
   entry-number : entryOf c l between .number ≡ result .refused
   unfolding calledOf
@@ -365,7 +360,7 @@ module _ (s : Settings) (start : ℕ) (pool : List ℕ) (past : List Entry) (l :
   still = runs-agree s start pool l′ pool′ (next .link) (next .run)
 
   exact : Exact (brings (c .event)) (e .number) (S past) (A past) (R past)
-  exact = let d = k .counted in rw (entry-number, ← d .sent, ← d .confirmed, ← d .received) (done .exact)
+  exact = let d = k .counted in rw (entry-number, ← d .sent, ← d .confirmed, ← d .received) (exactly (c .now) (k .link) (agrees .within) (c .event) (brings-low (c .event) o))
 
   single : (r b : ℕ) → Confirms 32768 (A past) (S past) r b → b ≡ A past + freed 32768 (A past) r
   single = is-next s past l between (k .link) agrees (k .counted)

@@ -1,11 +1,12 @@
 -- Of all calls only send writes into the pool; and the pool stays as long as it was. Assumes nothing.
 use Prim.Native.Nat.{ℕ}
 use mathlib.Core.Path.{_≡_, refl}
-use mathlib.Core.Bool.{Bool, true, false}
+use mathlib.Core.Bool.{Bool}
 use mathlib.Core.List.{List}
 use lib.ListN.{length}
 use lib.Dec.{eqb}
 use Rattle.laws.specs.Choice.{pick}
+use Rattle.laws.proofs.Choices.{picked}
 use Rattle.apdu.specs.Control.{uOctet}
 use Rattle.apdu.specs.Reading.{frameAnswer}
 use Rattle.apdu.specs.declared.frame.UFrame.{UFrame}
@@ -24,10 +25,6 @@ use Rattle.promises.specs.Demand3.{poolBy}
 record Keeps (pool : List ℕ) (o : Outcome) : Type 0 where
   same : o .pool ≡ pool
 
-by-test : {pool : List ℕ} (b : Bool) {o q : Outcome} → Keeps pool o → Keeps pool q → Keeps pool (pick b o q)
-by-test true e f = e
-by-test false e f = f
-
 module _ (s : State) (times pool : List ℕ) (now : ℕ) where
   s-pool : (a : AckAnswer) (more : Bool) → Keeps pool (sFreeing a s times pool more now)
   unfolding sFreeing accepting closing
@@ -42,25 +39,25 @@ module _ (s : State) (times pool : List ℕ) (now : ℕ) where
   u-pool : (u : UFrame) (more : Bool) → Keeps pool (onU u s times pool more now)
   unfolding onU testActed testConfirmed accepting closing
   u-pool u more =
-      by-test (eqb (uOctet u) testAct) (record { same = refl })
-      (by-test (eqb (uOctet u) testCon) (record { same = refl })
-      (by-test (eqb (uOctet u) stopAct) (record { same = refl })
-      (by-test (eqb (uOctet u) stopCon) (record { same = refl }) (record { same = refl }))))
+      picked (Keeps pool) (eqb (uOctet u) testAct) (record { same = refl })
+      (picked (Keeps pool) (eqb (uOctet u) testCon) (record { same = refl })
+      (picked (Keeps pool) (eqb (uOctet u) stopAct) (record { same = refl })
+      (picked (Keeps pool) (eqb (uOctet u) stopCon) (record { same = refl }) (record { same = refl }))))
 
   answer-pool : (f : FrameAnswer) (more : Bool) → Keeps pool (onAnswer f s times pool more now)
   unfolding onAnswer onI onS closing
-  answer-pool (FrameAnswer.I n r) more = by-test (eqb (n .0) (s .receive .next .0)) (i-pool (acknowledged (s .window .next .0) (s .window .held) (r .0)) more) (record { same = refl })
+  answer-pool (FrameAnswer.I n r) more = picked (Keeps pool) (eqb (n .0) (s .receive .next .0)) (i-pool (acknowledged (s .window .next .0) (s .window .held) (r .0)) more) (record { same = refl })
   answer-pool (FrameAnswer.S r) more = s-pool (acknowledged (s .window .next .0) (s .window .held) (r .0)) more
   answer-pool (FrameAnswer.U u) more = u-pool u more
   answer-pool (FrameAnswer.Refused r) more = record { same = refl }
 
   test-pool : Keeps pool (onTest s times pool now)
   unfolding onTest accepting closing
-  test-pool = by-test (tooMany s) (record { same = refl }) (record { same = refl })
+  test-pool = picked (Keeps pool) (tooMany s) (record { same = refl }) (record { same = refl })
 
   tick-pool : Keeps pool (onTick s times pool now)
   unfolding onTick accepting closing
-  tick-pool = by-test (eqb (tickRefusal s times now) 0) (record { same = refl }) (record { same = refl })
+  tick-pool = picked (Keeps pool) (eqb (tickRefusal s times now) 0) (record { same = refl }) (record { same = refl })
 
 pub pool-is : (e : Event) (l : Link) (pool : List ℕ) (output now : ℕ) → called e l pool output now .pool ≡ poolBy e (called e l pool output now) pool
 unfolding called eventOutcome onFrame onStop accepting refusing
@@ -68,7 +65,7 @@ pool-is e l pool output now = by e
   where
     checked : {o : Outcome} → Keeps pool o
         → Keeps pool (pick (eqb (callRefusal l output (length pool) now) 0) o (refusing (callRefusal l output (length pool) now) (l .state) (l .times) pool))
-    checked k = by-test (eqb (callRefusal l output (length pool) now) 0) k (record { same = refl })
+    checked k = picked (Keeps pool) (eqb (callRefusal l output (length pool) now) 0) k (record { same = refl })
 
     by : (e : Event) → called e l pool output now .pool ≡ poolBy e (called e l pool output now) pool
     by (frame f more) = checked (answer-pool (l .state) (l .times) pool now (frameAnswer f) more) .same

@@ -1,13 +1,12 @@
 -- There are runs: any call that is not refused under 19 to 24 can follow, and none is as long as the link is not closed. Assumes nothing.
 use Prim.Native.Nat.{ℕ, _≤_}
 use mathlib.Core.Path.{_≡_, refl, sym, ap, _∙_}
-use mathlib.Core.Bool.{Bool, true, false}
 use mathlib.Core.List.{List}
 use native.Mathlib.Omega.{arith}
 use borrow.Author.Tests.{le-ltb, ne-eqb}
 use lib.ListN.{length}
 use lib.Dec.{ltb}
-use Rattle.laws.specs.Choice.{pick}
+use Rattle.laws.proofs.Choices.{picked}
 use Rattle.link_state.specs.Limits.{soundLink, callRefusal}
 use Rattle.link_state.specs.declared.Settings.{Settings}
 use Rattle.link_state.specs.declared.Link.{Link}
@@ -26,19 +25,15 @@ pub data Range (n : ℕ) : Type 0 where
   none : n ≡ 0 → Range n
   from-19-to-24 : 19 ≤ n → n ≤ 24 → Range n
 
-by-test : (b : Bool) {x y : ℕ} → Range x → Range y → Range (pick b x y)
-by-test true p q = p
-by-test false p q = q
-
-pub first-range : (l : Link) (output pool now : ℕ) → Range (callRefusal l output pool now)
+first-range : (l : Link) (output pool now : ℕ) → Range (callRefusal l output pool now)
 unfolding callRefusal
 first-range l output pool now =
-    by-test (soundLink l)
-    (by-test (l .state .status .closed) (from-19-to-24 (omega arith) (omega arith))
-    (by-test (ltb output 4096) (from-19-to-24 (omega arith) (omega arith))
-    (by-test (ltb pool 3984) (from-19-to-24 (omega arith) (omega arith))
-    (by-test (ltb 281474976710655 now) (from-19-to-24 (omega arith) (omega arith))
-    (by-test (ltb now (l .state .clock)) (from-19-to-24 (omega arith) (omega arith)) (none refl))))))
+    picked Range (soundLink l)
+    (picked Range (l .state .status .closed) (from-19-to-24 (omega arith) (omega arith))
+    (picked Range (ltb output 4096) (from-19-to-24 (omega arith) (omega arith))
+    (picked Range (ltb pool 3984) (from-19-to-24 (omega arith) (omega arith))
+    (picked Range (ltb 281474976710655 now) (from-19-to-24 (omega arith) (omega arith))
+    (picked Range (ltb now (l .state .clock)) (from-19-to-24 (omega arith) (omega arith)) (none refl))))))
     (from-19-to-24 (omega arith) (omega arith))
 
 pub covers : Covers

@@ -1,25 +1,22 @@
 -- What an event does to the link by totals and lists, as a transcript counts it. Assumes nothing.
-use Prim.Native.Nat.{ℕ, _+_, _*_, _%_, _<_, _≤_}
+use Prim.Native.Nat.{ℕ, _+_, _*_, _%_, _≤_}
 use mathlib.Core.Path.{_≡_, refl, sym, ap, _∙_}
 use mathlib.Core.Bool.{Bool, true, false}
 use mathlib.Core.List.{List, [], _∷_, _++_, append-assoc, append-nil}
 use mathlib.Core.Logic.{_↔_}
 use native.Mathlib.Omega.{arith}
 use native.Mathlib.Nat.{add-zero, le-refl}
-use borrow.Author.Tests.{eqb-true, eqb-false, leb-true, le-leb, ltb-true, ne-eqb}
+use borrow.Author.Tests.{eqb-false, leb-true, ne-eqb}
 use lib.ListN.{length, drop, replicate, length-append, replicate-append-replicate}
 use lib.Dec.{eqb, leb}
 use Rattle.laws.specs.Choice.{pick}
 use Rattle.laws.specs.Window.{Confirms}
-use Rattle.laws.specs.Promises.{WindowLaw}
-use Rattle.laws.proofs.Window.{window}
-use Rattle.elements.specs.Refusals.{refusal, wrongReceiveNumber, wrongSendNumber, uNotAnswered, tooManyTests, queueFull, notPlainForm}
-use Rattle.elements.specs.declared.refusals.Refusal.{Refusal}
-use Rattle.asdu.specs.Header.{headerAnswer}
-use Rattle.asdu.specs.Reading.{readRefusal}
-use Rattle.asdu.specs.Plain.{plainBy, plainAnswer}
+use Rattle.laws.proofs.Choices.{picked, pick-same}
+use Rattle.elements.specs.Refusals.{wrongReceiveNumber, wrongSendNumber, uNotAnswered, tooManyTests, queueFull, notPlainForm}
+use Rattle.asdu.specs.Plain.{plainAnswer}
 use Rattle.asdu.specs.declared.PlainAnswer.{PlainAnswer}
 use Rattle.asdu.specs.declared.PlainAnswer.the-variants as PlainAnswer
+use Rattle.asdu.proofs.Passed.{plain-refused}
 use Rattle.apdu.specs.Control.{uOctet}
 use Rattle.apdu.specs.Reading.{frameAnswer}
 use Rattle.apdu.specs.declared.frame.UFrame.{UFrame}
@@ -29,10 +26,13 @@ use Rattle.link_state.specs.declared.Settings.{Settings}
 use Rattle.link_state.specs.declared.Timers.{Timers}
 use Rattle.link.specs.Frames.{Frame, iFrame, sFrame, uFrame, octetsOf, wire, stopAct, stopCon, testAct, testCon}
 use Rattle.link.specs.Events.{Event, frame, send, stop, test, tick, isDue}
-use Rattle.link_meaning.specs.Abstract.{Abstract, Progress, Result, onWire, outstanding, isOpen, freedBy, fits, free, count, sendOne, queue, timing, t1uFrom, t2From, t3From, testFrom, testAnswered, setClock, settle, ended, begin, change, add, sendOut, flush, letting, confirmAll, testOut, mustConfirm, finish, accept, refuse, close, stepS, stepI, stopLink, stepU, stepFrame, stepPlain, stepSend, stepStop, manyOpen, stepTest, tickNumber, tickT2, tickT3, stepTick, step}
+use Rattle.link.proofs.Wires.{wire-append}
+use Rattle.link_meaning.specs.Abstract.{Abstract, Progress, Result, onWire, isOpen, freedBy, fits, free, count, sendOne, queue, timing, t1uFrom, t2From, t3From, testFrom, testAnswered, setClock, settle, ended, begin, change, add, sendOut, flush, letting, confirmAll, testOut, mustConfirm, finish, accept, refuse, close, stepS, stepI, stopLink, stepU, stepFrame, stepPlain, stepSend, stepStop, manyOpen, stepTest, tickNumber, tickT2, tickT3, stepTick, step}
+use Rattle.link_meaning.specs.Effects.{asdusOf}
 use Rattle.link_meaning.specs.Runs.{Within}
+use Rattle.link_meaning.proofs.Effects.{asdus-append, alone, accepts-exactly}
 use Rattle.promises.specs.Demand3.{Brought, anI, anS, anAsdu, other, framed, brings, receivedBy, confirmedBy, takenBy}
-use Rattle.promises.proofs.Demand3Wire.{Carrying, sentIn, carry-append, sent-append, wire-append, s-six, u-six, i-most}
+use Rattle.promises.proofs.Demand3Wire.{Carrying, carry-append, s-six, u-six, i-most}
 
 -- ---- what has gone out so far
 
@@ -42,9 +42,9 @@ pub record Went (n : ℕ) (a : Abstract) (now : ℕ) (p : Progress) : Type 0 whe
   pub settings : p .link .settings ≡ a .settings
   pub received : p .link .received ≡ a .received
   pub confirmed : p .link .confirmed ≡ a .confirmed
-  pub sent : p .link .sent ≡ a .sent + length (sentIn (p .frames))
-  pub times : p .link .times ≡ a .times ++ replicate (length (sentIn (p .frames))) now
-  pub waiting : a .waiting ≡ sentIn (p .frames) ++ p .link .waiting
+  pub sent : p .link .sent ≡ a .sent + length (asdusOf (p .frames))
+  pub times : p .link .times ≡ a .times ++ replicate (length (asdusOf (p .frames))) now
+  pub waiting : a .waiting ≡ asdusOf (p .frames) ++ p .link .waiting
   pub carries : Carrying (a .sent) (a .received) (p .frames)
   pub size : length (wire (p .frames)) ≤ n
 
@@ -79,7 +79,7 @@ AllPlain (x ∷ xs) = (plainAnswer x ≡ PlainAnswer.Plain) × AllPlain xs
 
 module _ (a : Abstract) (now : ℕ) where
   went-begin : Went 0 a now (begin a)
-  unfolding wire
+  unfolding wire asdusOf
   went-begin =
       record {
         settings = refl;
@@ -115,7 +115,7 @@ module _ (a : Abstract) (now : ℕ) where
         confirmed = ap (λ (c : Counts). c .confirmed) e ∙ w .confirmed;
         sent = ap (λ (c : Counts). c .sent) e ∙ w .sent;
         times = ap (λ (c : Counts). c .times) e ∙ w .times;
-        waiting = w .waiting ∙ ap (λ (c : Counts). sentIn (p .frames) ++ c .waiting) (sym e);
+        waiting = w .waiting ∙ ap (λ (c : Counts). asdusOf (p .frames) ++ c .waiting) (sym e);
         carries = w .carries;
         size = w .size;
       }
@@ -129,11 +129,11 @@ module _ (a : Abstract) (now : ℕ) where
   unfolding wire
   longer p f m h l = omega (arith, ap length (wire-append (p .frames) (f ∷ [])), length-append (wire (p .frames)) (octetsOf f ++ []), length-append (octetsOf f) [])
 
-  went-short : {n : ℕ} (f : Frame) (p : Progress) → sentIn (f ∷ []) ≡ [] → length (octetsOf f) ≡ 6 → Carrying (p .link .sent) (a .received) (f ∷ [])
+  went-short : {n : ℕ} (f : Frame) (p : Progress) → asdusOf (f ∷ []) ≡ [] → length (octetsOf f) ≡ 6 → Carrying (p .link .sent) (a .received) (f ∷ [])
       → Went n a now p → Went (n + 6) a now (add f p)
   went-short f p none six h w =
-      let same : sentIn (p .frames ++ (f ∷ [])) ≡ sentIn (p .frames) =
-      sent-append (p .frames) (f ∷ []) ∙ (ap (λ (l : List (List ℕ)). sentIn (p .frames) ++ l) none ∙ append-nil (sentIn (p .frames))) in
+      let same : asdusOf (p .frames ++ (f ∷ [])) ≡ asdusOf (p .frames) =
+      asdus-append (p .frames) (f ∷ []) ∙ (ap (λ (l : List (List ℕ)). asdusOf (p .frames) ++ l) none ∙ append-nil (asdusOf (p .frames))) in
       record {
         settings = w .settings;
         received = w .received;
@@ -146,10 +146,11 @@ module _ (a : Abstract) (now : ℕ) where
       }
 
   went-u : {n : ℕ} (u : UFrame) (p : Progress) → Went n a now p → Went (n + 6) a now (add (uFrame u) p)
+  unfolding asdusOf
   went-u u p w = went-short (uFrame u) p refl (u-six u) tt w
 
   went-confirm : {n : ℕ} (p : Progress) → Went n a now p → Went (n + 6) a now (confirmAll p)
-  unfolding confirmAll
+  unfolding confirmAll asdusOf
   went-confirm p w =
       let f = sFrame (onWire (p .link .received)) in
       went-quiet (add f p) (settle (p .link)) (quiet-settle (p .link))
@@ -159,16 +160,11 @@ module _ (a : Abstract) (now : ℕ) where
   unfolding testOut
   went-test p w = went-timing (testFrom now) _ (went-u _ p w)
 
-  -- by a test, with a bound for both
-  went-pick : {n : ℕ} (b : Bool) {p q : Progress} → Went n a now p → Went n a now q → Went n a now (pick b p q)
-  went-pick true v w = v
-  went-pick false v w = w
-
   went-finish : {n : ℕ} (more : Bool) (p : Progress) → Went n a now p → Went (n + 6) a now (finish more now p)
   unfolding finish
   went-finish more p w =
       let c = went-quiet p (setClock now (p .link)) refl w in
-      went-pick (mustConfirm (p .link) more) (went-confirm _ c) (went-more (omega arith) c)
+      picked (Went _ a now) (mustConfirm (p .link) more) (went-confirm _ c) (went-more (omega arith) c)
 
   -- ---- I frames
 
@@ -177,8 +173,8 @@ module _ (a : Abstract) (now : ℕ) where
   unfolding sendOut sendOne
   went-out x xs p e plain w =
       let f = iFrame (onWire (p .link .sent)) (onWire (p .link .received)) x in
-      let out = sentIn (p .frames) in
-      let one : sentIn (p .frames ++ (f ∷ [])) ≡ out ++ (x ∷ []) = sent-append (p .frames) (f ∷ []) in
+      let out = asdusOf (p .frames) in
+      let one : asdusOf (p .frames ++ (f ∷ [])) ≡ out ++ (x ∷ []) = unfold asdusOf in asdus-append (p .frames) (f ∷ []) in
       let many : length (out ++ (x ∷ [])) ≡ length out + 1 = length-append out (x ∷ []) in
       let sent = w .sent in
       record {
@@ -199,18 +195,11 @@ module _ (a : Abstract) (now : ℕ) where
   unfolding flush
   went-flush n m [] p h e plain w = went-more (omega arith) w
   went-flush n m (x ∷ xs) p h e plain w =
-      went-pick (isOpen (p .link))
+      picked (Went _ a now) (isOpen (p .link))
       (went-flush (n + 255) m xs (sendOut now x xs p) (omega arith) (unfold sendOut sendOne in refl) (plain .1) (went-out x xs p e (plain .0) w))
       (went-more (omega arith) w)
 
 -- ---- a call, as a transcript counts it
-
--- accepted exactly if, in totals
-abbrev pub Exact : Brought → ℕ → ℕ → ℕ → ℕ → Type 0
-Exact (anI n r) number s c t = (number ≡ 0) ↔ (((a : ℕ) × Confirms 32768 c s r a) × (n ≡ t % 32768))
-Exact (anS r) number s c t = (number ≡ 0) ↔ ((a : ℕ) × Confirms 32768 c s r a)
-Exact (anAsdu x) number s c t = Unit {0}
-Exact other number s c t = Unit {0}
 
 abbrev pub outOf : Result → Progress
 outOf r = record { link = r .link; frames = r .frames }
@@ -230,18 +219,6 @@ pub record Stepped (b : Brought) (now : ℕ) (a : Abstract) (r : Result) : Type 
   pub plain : AllPlain (base .waiting)
   pub went : Went 4096 base now (outOf r)
   pub silent : (r .refused ≡ 0 → ⊥) → r .frames ≡ []
-  pub exact : Exact b (r .refused) (a .sent) (a .confirmed) (a .received)
-
--- the receive number, if any
-abbrev pub numberOf : Brought → ℕ
-numberOf (anI n r) = r
-numberOf (anS r) = r
-numberOf (anAsdu x) = 0
-numberOf other = 0
-
-same : {X : Type 0} (b : Bool) (x : X) → x ≡ pick b x x
-same true x = refl
-same false x = refl
 
 module _ (now : ℕ) (a : Abstract) (within : Within a) (few : length (a .waiting) ≤ 16) (plain : AllPlain (a .waiting)) where
   -- a call that brings nothing that is counted
@@ -252,22 +229,20 @@ module _ (now : ℕ) (a : Abstract) (within : Within a) (few : length (a .waitin
         steps = 0;
         settings = refl;
         sent = refl;
-        received = same (eqb (r .refused) 0) (a .received);
-        confirmed = same (eqb (r .refused) 0) (a .confirmed);
+        received = sym (pick-same (eqb (r .refused) 0) (a .received));
+        confirmed = sym (pick-same (eqb (r .refused) 0) (a .confirmed));
         counted = sym (add-zero (a .confirmed));
         upto = within .confirmed;
         times = refl;
-        waiting = sym (append-nil (a .waiting)) ∙ ap (λ (l : List (List ℕ)). a .waiting ++ l) (same (eqb (r .refused) 0) []);
+        waiting = sym (append-nil (a .waiting)) ∙ ap (λ (l : List (List ℕ)). a .waiting ++ l) (sym (pick-same (eqb (r .refused) 0) []));
         plain = plain;
         went = w;
         silent = silent;
-        exact = tt;
       }
 
   -- one that is refused, and leaves what is counted
-  stepped-refused : (b : Brought) (r : Result) → (r .refused ≡ 0 → ⊥) → r .frames ≡ [] → counts (r .link) ≡ counts a
-      → Exact b (r .refused) (a .sent) (a .confirmed) (a .received) → Stepped b now a r
-  stepped-refused b r some none q exact =
+  stepped-refused : (b : Brought) (r : Result) → (r .refused ≡ 0 → ⊥) → r .frames ≡ [] → counts (r .link) ≡ counts a → Stepped b now a r
+  stepped-refused b r some none q =
       let z : eqb (r .refused) 0 ≡ false = ne-eqb (r .refused) 0 some in
       record {
         base = a;
@@ -283,16 +258,15 @@ module _ (now : ℕ) (a : Abstract) (within : Within a) (few : length (a .waitin
         plain = plain;
         went = rw none (went-more a now (omega arith) (went-quiet a now (begin a) (r .link) q (went-begin a now)));
         silent = λ h. none;
-        exact = exact;
       }
 
   accepted-other : {n : ℕ} (came : Bool) (p : Progress) → n ≤ 4096 → Went n a now p → Stepped other now a (accept came p)
   unfolding accept
   accepted-other came p h w = stepped-other (accept came p) (went-more a now h w) (λ z. absurd (z refl))
 
-  closed : (b : Brought) (n : ℕ) → (n ≡ 0 → ⊥) → Exact b n (a .sent) (a .confirmed) (a .received) → Stepped b now a (close n a)
+  closed : (b : Brought) (n : ℕ) → (n ≡ 0 → ⊥) → Stepped b now a (close n a)
   unfolding close
-  closed b n some exact = stepped-refused b (close n a) some refl (quiet-ended n a) exact
+  closed b n some = stepped-refused b (close n a) some refl (quiet-ended n a)
 
   closed-other : (n : ℕ) → Stepped other now a (close n a)
   unfolding close
@@ -301,28 +275,13 @@ module _ (now : ℕ) (a : Abstract) (within : Within a) (few : length (a .waitin
 
   refused : (x : List ℕ) (n : ℕ) → (n ≡ 0 → ⊥) → Stepped (anAsdu x) now a (refuse n a)
   unfolding refuse
-  refused x n some =
-      stepped-refused (anAsdu x) (refuse n a) some refl refl tt
+  refused x n some = stepped-refused (anAsdu x) (refuse n a) some refl refl
 
   by-test : {b : Brought} (t : Bool) {p q : Result} → (t ≡ true → Stepped b now a p) → (t ≡ false → Stepped b now a q) → Stepped b now a (pick t p q)
   by-test true f g = f refl
   by-test false f g = g refl
 
   -- ---- a receive number
-
-  law : (r : ℕ) → r ≤ 32767 → WindowLaw 32768 (a .confirmed) (a .sent) r
-  law r h = let w = within .window in let k = within .k-high in window 32768 (a .confirmed) (a .sent) r (within .confirmed) (omega arith) (omega arith)
-
-  fits-some : (r : ℕ) → r ≤ 32767 → fits r a ≡ true → (c : ℕ) × Confirms 32768 (a .confirmed) (a .sent) r c
-  unfolding fits
-  fits-some r h e = (a .confirmed + freedBy r a, law r h .some (leb-true _ _ e))
-
-  some-fits : (r : ℕ) → r ≤ 32767 → (c : ℕ) × Confirms 32768 (a .confirmed) (a .sent) r c → fits r a ≡ true
-  unfolding fits
-  some-fits r h k = let e = law r h .one (k .0) (k .1) in let m = k .1 .most in le-leb (a .confirmed + freedBy r a) (a .sent) (omega arith)
-
-  not-fitting : (r : ℕ) → r ≤ 32767 → fits r a ≡ false → (c : ℕ) × Confirms 32768 (a .confirmed) (a .sent) r c → ⊥
-  not-fitting r h e k = let z : _≡_ {A = ℕ} 0 1 = (let q = some-fits r h k in cc) in omega arith
 
   upto-fits : (r : ℕ) → fits r a ≡ true → a .confirmed + freedBy r a ≤ a .sent
   unfolding fits
@@ -336,10 +295,10 @@ module _ (now : ℕ) (a : Abstract) (within : Within a) (few : length (a .waitin
   -- an accepted number: x is the link with the frame counted
   stepped-number : (b : Brought) (r : ℕ) (x : Abstract) (came : Bool) (p : Progress)
       → counts x ≡ record { settings = a .settings; sent = a .sent; received = receivedBy b (a .received); confirmed = a .confirmed; times = a .times; waiting = a .waiting }
-      → confirmedBy b (a .confirmed) ≡ a .confirmed + freedBy r a → takenBy b ≡ [] → fits r a ≡ true → Exact b 0 (a .sent) (a .confirmed) (a .received)
+      → confirmedBy b (a .confirmed) ≡ a .confirmed + freedBy r a → takenBy b ≡ [] → fits r a ≡ true
       → Went 4086 (free (freedBy r a) x) now p → Stepped b now a (accept came p)
   unfolding accept free
-  stepped-number b r x came p e number none f exact w =
+  stepped-number b r x came p e number none f w =
       let confirmed = ap (λ (c : Counts). c .confirmed + freedBy r a) e in
       let waiting = ap (λ (c : Counts). c .waiting) e in
       record {
@@ -356,31 +315,30 @@ module _ (now : ℕ) (a : Abstract) (within : Within a) (few : length (a .waitin
         plain = rw waiting plain;
         went = went-more (free (freedBy r a) x) now (omega arith) w;
         silent = λ z. absurd (z refl);
-        exact = exact;
       }
 
-  stepped-s : (r : ℕ) (more : Bool) → r ≤ 32767 → Stepped (anS r) now a (stepS r more now a)
+  stepped-s : (r : ℕ) (more : Bool) → Stepped (anS r) now a (stepS r more now a)
   unfolding stepS
-  stepped-s r more h =
+  stepped-s r more =
       let out = free (freedBy r a) a in
       by-test (fits r a)
       (λ e.
-      stepped-number (anS r) r a false _ refl refl refl e ((λ q. fits-some r h e), (λ q. refl))
+      stepped-number (anS r) r a false _ refl refl refl e
       (went-finish out now more _ (went-timing out now (t3From now) _ (let-out (freedBy r a) a few plain))))
-      (λ e. closed (anS r) wrongReceiveNumber (λ z. omega arith) ((λ z. absurd (omega arith)), (λ k. absurd (not-fitting r h e k))))
+      (λ e. closed (anS r) wrongReceiveNumber (λ z. omega arith))
 
-  stepped-i : (n r : ℕ) (more : Bool) → r ≤ 32767 → Stepped (anI n r) now a (stepI n r more now a)
+  stepped-i : (n r : ℕ) (more : Bool) → Stepped (anI n r) now a (stepI n r more now a)
   unfolding stepI count
-  stepped-i n r more h =
+  stepped-i n r more =
       let out = free (freedBy r a) (count a) in
       by-test (eqb n (onWire (a .received)))
       (λ t.
       by-test (fits r a)
       (λ e.
-      stepped-number (anI n r) r (count a) true _ refl refl refl e ((λ q. (fits-some r h e, eqb-true _ _ t)), (λ q. refl))
+      stepped-number (anI n r) r (count a) true _ refl refl refl e
       (went-finish out now more _ (went-timing out now (t3From now) _ (went-timing out now (t2From now) _ (let-out (freedBy r a) (count a) few plain)))))
-      (λ e. closed (anI n r) wrongReceiveNumber (λ z. omega arith) ((λ z. absurd (omega arith)), (λ k. absurd (not-fitting r h e (k .0))))))
-      (λ t. closed (anI n r) wrongSendNumber (λ z. omega arith) ((λ z. absurd (omega arith)), (λ k. absurd (eqb-false _ _ t (k .1)))))
+      (λ e. closed (anI n r) wrongReceiveNumber (λ z. omega arith)))
+      (λ t. closed (anI n r) wrongSendNumber (λ z. omega arith))
 
   -- ---- U frames, stop, test, tick
 
@@ -425,21 +383,12 @@ module _ (now : ℕ) (a : Abstract) (within : Within a) (few : length (a .waitin
   stepped-tick =
       by-test (eqb (tickNumber now a) 0)
       (λ t.
-      let second = went-pick a now (isDue (a .timers .t2) now) (went-confirm a now (begin a) (went-begin a now)) (went-more a now (omega arith) (went-begin a now)) in
-      let third = went-pick a now (isDue (a .timers .t3) now) (went-test a now _ second) (went-more a now (omega arith) second) in
+      let second = picked (Went _ a now) (isDue (a .timers .t2) now) (went-confirm a now (begin a) (went-begin a now)) (went-more a now (omega arith) (went-begin a now)) in
+      let third = picked (Went _ a now) (isDue (a .timers .t3) now) (went-test a now _ second) (went-more a now (omega arith) second) in
       accepted-other false _ (omega arith) (went-finish a now false _ third))
       (λ t. closed-other (tickNumber now a))
 
   -- ---- send
-
-  -- with the window open none waits
-  none-waits : isOpen a ≡ true → a .waiting ≡ []
-  unfolding isOpen
-  none-waits t = nothing (a .waiting) (λ some. let f = within .only-full some in let l = ltb-true (outstanding a) (a .settings .k) t in omega arith)
-    where
-      nothing : (xs : List (List ℕ)) → (0 < length xs → ⊥) → xs ≡ []
-      nothing [] h = refl
-      nothing (x ∷ xs) h = absurd (h (omega arith))
 
   plain-last : (xs : List (List ℕ)) (x : List ℕ) → AllPlain xs → plainAnswer x ≡ PlainAnswer.Plain → AllPlain (xs ++ (x ∷ []))
   plain-last [] x h p = (p, tt)
@@ -463,14 +412,13 @@ module _ (now : ℕ) (a : Abstract) (within : Within a) (few : length (a .waitin
         plain = unfold queue in plain-last (a .waiting) x plain e;
         went = went-more (queue x a) now h w;
         silent = λ z. absurd (z refl);
-        exact = tt;
       }
 
   stepped-plain : (x : List ℕ) → plainAnswer x ≡ PlainAnswer.Plain → Stepped (anAsdu x) now a (stepPlain x now a)
   unfolding stepPlain
   stepped-plain x e =
       by-test (isOpen a)
-      (λ t. taken-plain x _ e (omega arith) (went-finish (queue x a) now false _ (at-once (none-waits t))))
+      (λ t. taken-plain x _ e (omega arith) (went-finish (queue x a) now false _ (at-once (alone now a within t))))
       (λ t.
       by-test (leb (a .settings .p) (length (a .waiting)))
       (λ u. refused x queueFull (λ z. omega arith))
@@ -483,27 +431,58 @@ module _ (now : ℕ) (a : Abstract) (within : Within a) (few : length (a .waitin
   unfolding stepSend
   stepped-send x PlainAnswer.Plain e = stepped-plain x e
   stepped-send x PlainAnswer.Reserved e = refused x notPlainForm (λ z. omega arith)
-  stepped-send x (PlainAnswer.Refused r) e = refused x (r .0) (told (eqb (readRefusal x) 0) (plainBy (headerAnswer x) x) refl (unfold plainAnswer in e))
-    where
-      told : (b c : Bool) → eqb (readRefusal x) 0 ≡ b
-          → pick b (pick c PlainAnswer.Plain PlainAnswer.Reserved) (PlainAnswer.Refused (refusal (readRefusal x))) ≡ PlainAnswer.Refused r → r .0 ≡ 0 → ⊥
-      told true true g h z = let w : _≡_ {A = ℕ} 0 1 = cc in omega arith
-      told true false g h z = let w : _≡_ {A = ℕ} 0 1 = cc in omega arith
-      told false c g h z = let w : refusal (readRefusal x) ≡ r = cc in eqb-false _ _ g (ap (λ (q : Refusal). q .0) w ∙ z)
+  stepped-send x (PlainAnswer.Refused r) e = refused x (r .0) (eqb-false _ _ (plain-refused x r e))
 
   -- ---- any call
 
-  stepped-frame : (f : FrameAnswer) (more : Bool) → numberOf (framed f) ≤ 32767 → Stepped (framed f) now a (stepFrame f more now a)
+  stepped-frame : (f : FrameAnswer) (more : Bool) → Stepped (framed f) now a (stepFrame f more now a)
   unfolding stepFrame
-  stepped-frame (FrameAnswer.I n r) more h = stepped-i (n .0) (r .0) more h
-  stepped-frame (FrameAnswer.S r) more h = stepped-s (r .0) more h
-  stepped-frame (FrameAnswer.U u) more h = stepped-u u more
-  stepped-frame (FrameAnswer.Refused r) more h = closed-other (r .0)
+  stepped-frame (FrameAnswer.I n r) more = stepped-i (n .0) (r .0) more
+  stepped-frame (FrameAnswer.S r) more = stepped-s (r .0) more
+  stepped-frame (FrameAnswer.U u) more = stepped-u u more
+  stepped-frame (FrameAnswer.Refused r) more = closed-other (r .0)
 
-  pub stepped : (e : Event) → numberOf (brings e) ≤ 32767 → Stepped (brings e) now a (step e now a)
+  pub stepped : (e : Event) → Stepped (brings e) now a (step e now a)
   unfolding step
-  stepped (frame f more) h = stepped-frame (frameAnswer f) more h
-  stepped (send x) h = stepped-send x (plainAnswer x) refl
-  stepped stop h = stepped-stop
-  stepped test h = stepped-test
-  stepped tick h = stepped-tick
+  stepped (frame f more) = stepped-frame (frameAnswer f) more
+  stepped (send x) = stepped-send x (plainAnswer x) refl
+  stepped stop = stepped-stop
+  stepped test = stepped-test
+  stepped tick = stepped-tick
+
+-- ---- which frames are accepted
+
+-- accepted exactly if, in totals
+abbrev pub Exact : Brought → ℕ → ℕ → ℕ → ℕ → Type 0
+Exact (anI n r) number s c t = (number ≡ 0) ↔ (((a : ℕ) × Confirms 32768 c s r a) × (n ≡ t % 32768))
+Exact (anS r) number s c t = (number ≡ 0) ↔ ((a : ℕ) × Confirms 32768 c s r a)
+Exact (anAsdu x) number s c t = Unit {0}
+Exact other number s c t = Unit {0}
+
+-- the receive number, if any
+abbrev pub numberOf : Brought → ℕ
+numberOf (anI n r) = r
+numberOf (anS r) = r
+numberOf (anAsdu x) = 0
+numberOf other = 0
+
+module _ (now : ℕ) (a : Abstract) (within : Within a) where
+  abbrev Exactly : Brought → Result → Type 0
+  Exactly b r = Exact b (r .refused) (a .sent) (a .confirmed) (a .received)
+
+  exact-frame : (f : FrameAnswer) (more : Bool) → numberOf (framed f) ≤ 32767 → Exactly (framed f) (stepFrame f more now a)
+  unfolding stepFrame
+  exact-frame (FrameAnswer.I n r) more h =
+      let x = accepts-exactly now more a (n .0) (r .0) within (omega arith) .i-frame in
+      ((λ z. let p = x .0 z in (p .1, p .0)), (λ p. x .1 (p .1, p .0)))
+  exact-frame (FrameAnswer.S r) more h = accepts-exactly now more a 0 (r .0) within (omega arith) .s-frame
+  exact-frame (FrameAnswer.U u) more h = tt
+  exact-frame (FrameAnswer.Refused r) more h = tt
+
+  pub exactly : (e : Event) → numberOf (brings e) ≤ 32767 → Exactly (brings e) (step e now a)
+  unfolding step
+  exactly (frame f more) h = exact-frame (frameAnswer f) more h
+  exactly (send x) h = tt
+  exactly stop h = tt
+  exactly test h = tt
+  exactly tick h = tt

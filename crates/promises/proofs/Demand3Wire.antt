@@ -8,8 +8,7 @@ use borrow.Author.Tests.{le-ltb}
 use lib.ListN.{length, length-append}
 use lib.Seq.{take-at, drop-at}
 use Rattle.laws.specs.Numbers.{leOctets}
-use Rattle.asdu.specs.Reading.{readRefusal}
-use Rattle.asdu.specs.Plain.{plainAnswer, plainNumber}
+use Rattle.asdu.specs.Plain.{plainAnswer}
 use Rattle.asdu.specs.declared.PlainAnswer.the-variants as PlainAnswer
 use Rattle.apdu.specs.Control.{sendNumber, receiveNumber}
 use Rattle.apdu.specs.Reading.{frameAnswer, asduPart}
@@ -24,9 +23,9 @@ use Rattle.assembly.specs.declared.start.StartAnswer.{StartAnswer}
 use Rattle.assembly.specs.declared.start.StartAnswer.the-variants.{Whole}
 use Rattle.assembly.proofs.Sights.{enough-whole, longer-whole}
 use Rattle.link.specs.Frames.{Frame, iFrame, sFrame, uFrame, octetsOf, wire}
-use Rattle.link_meaning.proofs.Sizes.{plain-sized}
+use Rattle.link_meaning.specs.Effects.{asdusOf}
+use Rattle.asdu.proofs.Passed.{plain-reads, plain-sized}
 use Rattle.promises.specs.Demand3.{keepI, iFramesIn, asdusIn, Numbered}
-use Rattle.promises.proofs.Answered.{answers}
 use Rattle.promises.proofs.FrameBack.{i-reads, part-is, s-reads, frame-reads-back}
 
 -- ---- one frame
@@ -41,9 +40,6 @@ abbrev readAs : Frame → FrameAnswer
 readAs (iFrame s r x) = FrameAnswer.I (sendNumber s) (receiveNumber r)
 readAs (sFrame r) = FrameAnswer.S (receiveNumber r)
 readAs (uFrame u) = FrameAnswer.U u
-
-plain-reads : (x : List ℕ) → plainAnswer x ≡ PlainAnswer.Plain → readRefusal x ≡ 0
-plain-reads x e = sym (answers .telling x) ∙ ap plainNumber e
 
 reads : (f : Frame) → Fit f → frameAnswer (octetsOf f) ≡ readAs f
 unfolding octetsOf
@@ -127,13 +123,6 @@ Carrying s r (iFrame n m x ∷ fs) = (n ≡ s % 32768) × (m ≡ r % 32768) × (
 Carrying s r (sFrame m ∷ fs) = (m ≡ r % 32768) × Carrying s r fs
 Carrying s r (uFrame u ∷ fs) = Carrying s r fs
 
--- the ASDUs of the I frames
-abbrev pub sentIn : List Frame → List (List ℕ)
-sentIn [] = []
-sentIn (iFrame s r x ∷ fs) = x ∷ sentIn fs
-sentIn (sFrame r ∷ fs) = sentIn fs
-sentIn (uFrame u ∷ fs) = sentIn fs
-
 low : (n : ℕ) → n % 32768 ≤ 32767
 low n = omega arith
 
@@ -143,10 +132,11 @@ all-fit s r (iFrame n m x ∷ fs) h = ((omega (arith, low s, h .0), omega (arith
 all-fit s r (sFrame m ∷ fs) h = (omega (arith, low r, h .0), all-fit s r fs (h .1))
 all-fit s r (uFrame u ∷ fs) h = (tt, all-fit s r fs h)
 
-pub asdus-out : (s r : ℕ) (fs : List Frame) → Carrying s r fs → asdusIn (iFramesIn (each fs)) ≡ sentIn fs
+pub asdus-out : (s r : ℕ) (fs : List Frame) → Carrying s r fs → asdusIn (iFramesIn (each fs)) ≡ asdusOf fs
+unfolding asdusOf
 asdus-out s r fs h = go fs (all-fit s r fs h)
   where
-    go : (gs : List Frame) → AllFit gs → asdusIn (iFramesIn (each gs)) ≡ sentIn gs
+    go : (gs : List Frame) → AllFit gs → asdusIn (iFramesIn (each gs)) ≡ asdusOf gs
     go [] f = refl
     go (iFrame n m x ∷ gs) f =
         let rest-is = go gs (f .1) in
@@ -176,19 +166,9 @@ kept-append [] ys = refl
 kept-append (x ∷ xs) ys =
     ap (λ (l : List (List ℕ)). keepI (frameAnswer x) x ++ l) (kept-append xs ys) ∙ sym (append-assoc (keepI (frameAnswer x) x) (iFramesIn xs) (iFramesIn ys))
 
-pub carry-append : (s r t : ℕ) (fs gs : List Frame) → t ≡ s + length (sentIn fs) → Carrying s r fs → Carrying t r gs → Carrying s r (fs ++ gs)
+pub carry-append : (s r t : ℕ) (fs gs : List Frame) → t ≡ s + length (asdusOf fs) → Carrying s r fs → Carrying t r gs → Carrying s r (fs ++ gs)
+unfolding asdusOf
 carry-append s r t [] gs e h k = subst (λ (n : ℕ). Carrying n r gs) (e ∙ add-zero s) k
 carry-append s r t (iFrame n m x ∷ fs) gs e h k = (h .0, h .1, h .2, carry-append (s + 1) r t fs gs (omega arith) (h .3) k)
 carry-append s r t (sFrame m ∷ fs) gs e h k = (h .0, carry-append s r t fs gs e (h .1) k)
 carry-append s r t (uFrame u ∷ fs) gs e h k = carry-append s r t fs gs e h k
-
-pub sent-append : (fs gs : List Frame) → sentIn (fs ++ gs) ≡ sentIn fs ++ sentIn gs
-sent-append [] gs = refl
-sent-append (iFrame n m x ∷ fs) gs = ap (λ (l : List (List ℕ)). x ∷ l) (sent-append fs gs)
-sent-append (sFrame m ∷ fs) gs = sent-append fs gs
-sent-append (uFrame u ∷ fs) gs = sent-append fs gs
-
-pub wire-append : (fs gs : List Frame) → wire (fs ++ gs) ≡ wire fs ++ wire gs
-unfolding wire
-wire-append [] gs = refl
-wire-append (f ∷ fs) gs = ap (λ (l : List ℕ). octetsOf f ++ l) (wire-append fs gs) ∙ sym (append-assoc (octetsOf f) (wire fs) (wire gs))

@@ -13,10 +13,11 @@ use Rattle.apdu.specs.Reading.{outerRefusal, shortAnswer, frameAnswer, frameNum
 use Rattle.apdu.specs.Writing.{startOctets}
 use Rattle.apdu.specs.declared.frame.FrameAnswer.the-variants.{S}
 use Rattle.apdu.proofs.Answers.{number-small}
+use Rattle.apdu.proofs.Shapes.{STaken, Shape, i-shape, s-shape, u-shape, refused-shape, shape}
 use Rattle.promises.specs.Frames.{LaidFrame, i-laid, s-laid, u-laid, laidAnswer, FrameAccepts}
 use Rattle.promises.proofs.Bodies.{accepted}
 use Rattle.promises.proofs.FrameBack.{i-reads, u-back}
-use Rattle.promises.proofs.FrameAgain.{STaken, Shape, i-shape, s-shape, u-shape, refused-shape, shape, all-six, only-six, number-accepted, i-octets, u-same}
+use Rattle.promises.proofs.FrameAgain.{all-six, only-six, number-accepted, i-octets, u-same}
 
 -- ---- what is laid out is accepted
 

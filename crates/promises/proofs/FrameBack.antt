@@ -19,7 +19,8 @@ use Rattle.apdu.specs.Reading.{outerRefusal, shortAnswer, longAnswer, frameAnsw
 use Rattle.apdu.specs.Writing.{startOctets, iOctets, sOctets, uOctets, numbersRefusal, numberRefusal, iRefusal, sRefusal}
 use Rattle.apdu.specs.declared.frame.UFrame.{UFrame}
 use Rattle.apdu.specs.declared.frame.FrameAnswer.the-variants.{I, S, U}
-use Rattle.apdu.proofs.Answers.{i-long, octets-small, number-small, numbers-small}
+use Rattle.asdu.proofs.Passed.{read-sized}
+use Rattle.apdu.proofs.Answers.{i-long, number-small, numbers-small}
 use Rattle.promises.specs.Asdus.{TypedAsdu}
 use Rattle.promises.specs.Frames.{IBack, FrameReadsBack}
 use Rattle.promises.proofs.ReadBack.{reads-back}
@@ -78,7 +79,7 @@ module _ (s r : ℕ) (asdu : List ℕ) where
   pub i-reads : s ≤ 32767 → r ≤ 32767 → 1 ≤ length asdu → readRefusal asdu ≡ 0 → frameAnswer (iOctets s r asdu) ≡ I (sendNumber s) (receiveNumber r)
   i-reads hs hr some h =
       let f = iOctets s r asdu in
-      let small = octets-small asdu h in
+      let small = read-sized asdu h .1 in
       let outer : outerRefusal f ≡ 0 =
       outer-passes f (omega (arith, i-long s r asdu)) start-is (omega (arith, long-is)) (omega (arith, i-long s r asdu, long-is)) in
       let long = long-frame f outer (λ e. omega (arith, long-is)) in

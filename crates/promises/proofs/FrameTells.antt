@@ -22,10 +22,11 @@ use Rattle.apdu.specs.Writing.{iOctets, sOctets}
 use Rattle.apdu.specs.Plain.{plainFrameBy, plainFrame}
 use Rattle.apdu.specs.declared.frame.FrameAnswer.{FrameAnswer}
 use Rattle.apdu.specs.declared.frame.FrameAnswer.the-variants.{I, S}
+use Rattle.apdu.proofs.Shapes.{ITaken, STaken, Shape, i-shape, s-shape, u-shape, refused-shape, shape}
 use Rattle.promises.specs.Frames.{FrameTold, rewritten}
 use Rattle.promises.proofs.WriteAgain.{writes-again}
 use Rattle.promises.proofs.Tells.{tells}
-use Rattle.promises.proofs.FrameAgain.{ITaken, STaken, Shape, i-shape, s-shape, u-shape, refused-shape, shape, i-octets, s-same, u-same}
+use Rattle.promises.proofs.FrameAgain.{i-octets, s-same, u-same}
 
 -- plain and reserved are two answers
 differ : PlainAnswer.Plain ≡ PlainAnswer.Reserved → ⊥

@@ -6,7 +6,7 @@ use Rattle.link_state.specs.declared.State.{State}
 use Rattle.link.specs.Frames.{testCon}
 use Rattle.link.specs.Making.{setT3}
 use Rattle.link.specs.Events.{testActed}
-use Rattle.link_steps.proofs.Made.{makes-u, makes-become, makes-then, ending-appends, answers-accepting}
+use Rattle.link_steps.proofs.Made.{makes-u, makes-become, answers-ending}
 use borrow.Author.Needs.{needs}
 use Rattle.link_receive.proofs.on_test_act.Statement.{statement}
 use Rattle.link_receive.proofs.on_test_act.Tie as tie
@@ -39,8 +39,7 @@ returns c =
     λ ts ps.
     let one = makes-u testCon (a .s) ts 0 (a .out .now) {end = 6} refl (c .before .before .before .before .before .before .before .before .put-start .ensures) in
     let two = makes-become (setT3 (a .moment)) one (c .before .before .before .before .before .set-t3 .ensures) in
-    let three = makes-then (ending-appends (a .more) (a .moment)) two (two .state) (c .before .before .before .finish .ensures ts) in
-    answers-accepting false ps three (c .accept .ensures)
+    answers-ending false (a .more) (a .moment) ps two (two .state) (c .before .before .before .finish .ensures) (c .accept .ensures)
 
 pub on-test-act-spec : {M : Type 1} → statement M
 on-test-act-spec =

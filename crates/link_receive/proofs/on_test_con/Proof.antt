@@ -5,7 +5,7 @@ use native.Mathlib.Omega.{arith}
 use Rattle.link_state.specs.declared.State.{State}
 use Rattle.link.specs.Making.{setT3}
 use Rattle.link.specs.Events.{testsAnswered, testConfirmed}
-use Rattle.link_steps.proofs.Made.{makes-none, makes-become, makes-then, ending-appends, answers-accepting}
+use Rattle.link_steps.proofs.Made.{makes-none, makes-become, answers-ending}
 use Rattle.link_receive.proofs.Incoming.{timed-by}
 use borrow.Author.Needs.{needs}
 use Rattle.link_receive.proofs.on_test_con.Statement.{statement}
@@ -39,8 +39,7 @@ returns c =
     let f : State → State = λ x. setT3 (a .moment) (testsAnswered x) in
     λ ts ps.
     let one = makes-become f (makes-none (a .s) ts 0 (a .out .now)) (c .before .before .before .before .before .set-t3 .ensures ∙ ap (setT3 (a .moment)) (c .before .before .before .before .before .before .tests-answered .ensures)) in
-    let two = makes-then (ending-appends (a .more) (a .moment)) one (one .state) (c .before .before .before .finish .ensures ts) in
-    answers-accepting false ps two (c .accept .ensures)
+    answers-ending false (a .more) (a .moment) ps one (one .state) (c .before .before .before .finish .ensures) (c .accept .ensures)
 
 pub on-test-con-spec : {M : Type 1} → statement M
 on-test-con-spec =

@@ -5,7 +5,7 @@ use native.Mathlib.Omega.{arith}
 use Rattle.link_state.specs.declared.State.{State}
 use Rattle.link.specs.Making.{sentOf, handOut}
 use Rattle.link.specs.Events.{start, accepting}
-use Rattle.link_steps.proofs.Made.{makes-then, ending-appends, answers-accepting}
+use Rattle.link_steps.proofs.Made.{answers-ending}
 use Rattle.link_steps.proofs.Flushing.{hand-out-short}
 use Rattle.link_steps.proofs.Unchanged.{ending-times}
 use borrow.Author.Needs.{needs}
@@ -43,8 +43,7 @@ returns c =
     let a = c .before .before .before .before .before .before .before .before .before .before .before .before .before .before .before .args in
     let g = handOut (a .moment) (a .asdu .now) (start (a .s) (a .times .now)) in
     let out = c .before .before .before .before .before .before .before .before .before .hand-out .ensures in
-    let two = makes-then (ending-appends false (a .moment)) (out .makes) (out .makes .state) (c .before .before .before .finish .ensures (g .times)) in
-    λ ps. record { answers = answers-accepting false ps two (c .accept .ensures); ring = out .ring ∙ sym (ending-times false (a .moment) g) }
+    λ ps. record { answers = answers-ending false false (a .moment) ps (out .makes) (out .makes .state) (c .before .before .before .finish .ensures) (c .accept .ensures); ring = out .ring ∙ sym (ending-times false (a .moment) g) }
 
 pub send-now-spec : {M : Type 1} → statement M
 send-now-spec =

@@ -10,7 +10,7 @@ use Rattle.elements.specs.Refusals.{queueFull}
 use Rattle.link_state.specs.declared.State.{State}
 use Rattle.link.specs.Making.{withQueue, queued, freeSlot, windowOpen}
 use Rattle.link.specs.Events.{start, accepting, sendPlain}
-use Rattle.link_steps.proofs.Made.{makes-none, makes-then, ending-appends, answers-accepting}
+use Rattle.link_steps.proofs.Made.{makes-none, answers-ending}
 use Rattle.link_steps.proofs.Unchanged.{ending-times}
 use Rattle.link_send.proofs.Outgoing.{refuses}
 use borrow.Author.Needs.{needs}
@@ -67,9 +67,8 @@ returns-3 c =
     let g = start t (a .times .now) in
     let pool = sets (a .pool .now) (freeSlot (a .s .queue) * 249) (a .asdu .now) in
     let put = c .before .before .before .before .before .before .before .enqueue .ensures in
-    let one = makes-then (ending-appends false (a .moment)) (makes-none t (a .times .now) 0 (a .out .now)) (put .0) (c .before .before .before .finish .ensures (a .times .now)) in
     rw (le-ltb _ _ (c .before .before .before .before .before .before .before .before .before .before .before .if1 .left), lt-leb _ _ (c .before .before .before .before .before .before .before .before .before .if2 .left))
-    (record { does = record { answers = answers-accepting false pool one (c .accept .ensures); ring = sym (ending-times false (a .moment) g) }; pool = put .1 })
+    (record { does = record { answers = answers-ending false false (a .moment) pool (makes-none t (a .times .now) 0 (a .out .now)) (put .0) (c .before .before .before .finish .ensures) (c .accept .ensures); ring = sym (ending-times false (a .moment) g) }; pool = put .1 })
 
 pub send-plain-spec : {M : Type 1} → statement M
 send-plain-spec =

@@ -5,10 +5,10 @@ use native.Mathlib.Omega.{arith}
 use borrow.Author.Needs.{needs}
 use Rattle.link_state.specs.declared.State.{State}
 use Rattle.link.specs.declared.answers.Made.{Made}
-use Rattle.link.specs.Frames.{uWith, stopAct}
-use Rattle.link.specs.Making.{confirmedOf, confirm, say, setT1u}
-use Rattle.link.specs.Events.{start, onStop}
-use Rattle.link_steps.proofs.Made.{makes-u, makes-confirm, makes-become, makes-then, confirm-appends, ending-appends, answers-accepting}
+use Rattle.link.specs.Frames.{stopAct}
+use Rattle.link.specs.Making.{confirmedOf, confirm, setT1u}
+use Rattle.link.specs.Events.{onStop}
+use Rattle.link_steps.proofs.Made.{makes-u, makes-confirm, makes-become, makes-then, confirm-appends, answers-ending}
 use Rattle.link_time.proofs.on_stop.Statement.{statement}
 use Rattle.link_time.proofs.on_stop.Tie as tie
 
@@ -69,10 +69,8 @@ returns c =
     λ ts ps.
     let said = makes-u stopAct (s .args .s) ts 0 (s .args .out .now) {end = 6} refl (put .ensures) in
     let two = makes-then confirm-appends said refl (makes-confirm (s .args .s) ts 6 _ (conf .0) (conf .1)) in
-    let g = confirm (say (uWith stopAct) (start (s .args .s) ts)) in
     let three = makes-become (setT1u (s .args .moment)) two (c .before .before .before .before .before .set-t1u .ensures) in
-    let four = makes-then (ending-appends false (s .args .moment)) three (three .state) (c .before .before .before .finish .ensures (g .times)) in
-    answers-accepting false ps four (c .accept .ensures)
+    answers-ending false false (s .args .moment) ps three (three .state) (c .before .before .before .finish .ensures) (c .accept .ensures)
 
 pub on-stop-spec : {M : Type 1} → statement M
 on-stop-spec =

@@ -5,9 +5,9 @@ use native.Mathlib.Omega.{arith}
 use borrow.Author.Needs.{needs}
 use borrow.Author.Tests.{lt-ltb, le-ltb}
 use Rattle.link.specs.declared.answers.Made.{Made}
-use Rattle.link.specs.Making.{testedOf, tested}
-use Rattle.link.specs.Events.{start, onTest, tooMany}
-use Rattle.link_steps.proofs.Made.{makes-tested, makes-then, ending-appends, answers-accepting, answers-closing}
+use Rattle.link.specs.Making.{testedOf}
+use Rattle.link.specs.Events.{onTest, tooMany}
+use Rattle.link_steps.proofs.Made.{makes-tested, answers-ending, answers-closing}
 use Rattle.link_time.proofs.on_test.Statement.{statement}
 use Rattle.link_time.proofs.on_test.Tie as tie
 
@@ -46,9 +46,7 @@ returns-2 c =
     let test = c .before .before .before .before .before .before .before .send-test .ensures in
     λ ts ps.
     let one = makes-tested (s .args .moment) (s .args .s) ts 0 (s .args .out .now) (test .0) (test .1) in
-    let g = tested (s .args .moment) (start (s .args .s) ts) in
-    let two = makes-then (ending-appends false (s .args .moment)) one (one .state) (c .before .before .before .finish .ensures (g .times)) in
-    rw (le-ltb _ _ (c .before .before .before .before .before .before .before .before .before .if1 .left)) (answers-accepting false ps two (c .accept .ensures))
+    rw (le-ltb _ _ (c .before .before .before .before .before .before .before .before .before .if1 .left)) (answers-ending false false (s .args .moment) ps one (one .state) (c .before .before .before .finish .ensures) (c .accept .ensures))
 
 pub on-test-spec : {M : Type 1} → statement M
 on-test-spec =

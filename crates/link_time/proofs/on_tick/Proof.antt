@@ -7,8 +7,8 @@ use borrow.Author.Needs.{needs}
 use Rattle.elements.specs.declared.refusals.Refusal.{Refusal}
 use Rattle.elements.proofs.Refused.{none, some}
 use Rattle.link_state.specs.declared.State.{State}
-use Rattle.link.specs.Events.{start, tickRefusal, ticked, tickedT2, tickedT3, onTick}
-use Rattle.link_steps.proofs.Made.{makes-then, ending-appends, answers-accepting, answers-closing}
+use Rattle.link.specs.Events.{start, tickRefusal, ticked, tickedT2, onTick}
+use Rattle.link_steps.proofs.Made.{makes-then, answers-ending, answers-closing}
 use Rattle.link_time.proofs.Ticks.{calm-t2, short-t2, short-t3, next-t3, tickedT3-appends}
 use Rattle.link_time.proofs.on_tick.Statement.{statement}
 use Rattle.link_time.proofs.on_tick.Tie as tie
@@ -76,11 +76,9 @@ returns-2 c =
     let a = s .args in
     let passed = none (tickRefusal (a .s) (a .times .now) (a .moment)) (c .before .before .before .before .before .before .before .before .before .before .before .before .before .before .before .tick-refusal .ensures) (c .before .before .before .before .before .before .before .before .before .before .before .before .before .before .is-none .ensures) (c .before .before .before .before .before .before .before .before .before .before .before .before .before .if1 .left) in
     let g₂ = tickedT2 (a .moment) (start (a .s) (a .times .now)) in
-    let g₃ = tickedT3 (a .s .timers .t3) (a .moment) g₂ in
     let one = c .before .before .before .before .before .before .before .before .before .before .before .tick-t2 .ensures (a .times .now) in
     let two = makes-then (tickedT3-appends (a .s .timers .t3) (a .moment)) one (one .state) (c .before .before .before .before .before .before .before .tick-t3 .ensures (g₂ .times)) in
-    let three = makes-then (ending-appends false (a .moment)) two (two .state) (c .before .before .before .finish .ensures (g₃ .times)) in
-    λ ps. rw passed (answers-accepting false ps three (c .accept .ensures))
+    λ ps. rw passed (answers-ending false false (a .moment) ps two (two .state) (c .before .before .before .finish .ensures) (c .accept .ensures))
 
 pub on-tick-spec : {M : Type 1} → statement M
 on-tick-spec =

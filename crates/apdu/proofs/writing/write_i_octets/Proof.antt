@@ -3,8 +3,9 @@ use mathlib.Core.Path.{refl, sym, _∙_}
 use native.Mathlib.Omega.{arith}
 use borrow.Author.Needs.{needs}
 use Rattle.elements.proofs.Refused.{none, some}
+use Rattle.asdu.proofs.Passed.{read-sized}
 use Rattle.apdu.specs.Writing.{iOctets, relayRefusal}
-use Rattle.apdu.proofs.Answers.{refuse, accept, then-stops, then-goes, no-room, some-room, numbers-small, octets-small, i-long, i-stored}
+use Rattle.apdu.proofs.Answers.{refuse, accept, then-stops, then-goes, no-room, some-room, numbers-small, i-long, i-stored}
 use Rattle.apdu.proofs.writing.write_i_octets.Statement.{statement}
 use Rattle.apdu.proofs.writing.write_i_octets.Tie as tie
 
@@ -48,8 +49,8 @@ returns-3 c =
     let read = none _ (t .before .before .check-asdu .ensures) (t .before .is-none2 .ensures) (t .if2 .left) in
     refuse _ _ _ (then-goes _ _ passed ∙ (then-goes _ _ read ∙ no-room _ _ (c .if3 .taken))) refl refl
 
-put-part-requires : tie.Need-put-part-requires
-put-part-requires c κs = search needs
+put-octets-requires : tie.Need-put-octets-requires
+put-octets-requires c κs = search needs
 
 add-put-start : tie.Need-add-put-start
 add-put-start c = search needs
@@ -58,7 +59,7 @@ cast-put-start : tie.Need-cast-put-start
 cast-put-start c =
     let t = c .before .before .before .before .before .before in
     let read = none _ (t .before .before .check-asdu .ensures) (t .before .is-none2 .ensures) (t .if2 .left) in
-    omega (arith, octets-small _ read)
+    omega (arith, read-sized _ read .1)
 
 mul-put-start : tie.Need-mul-put-start
 mul-put-start c =
@@ -96,7 +97,7 @@ returns-4 c =
     (then-goes _ _ passed ∙ (then-goes _ _ read ∙ some-room _ _ room))
     (sym (i-long (a .send .0) (a .receive .0) octets))
     room
-    (c .before .before .put-start .ensures ∙ i-stored (a .send .0) (a .receive .0) octets (a .out .now) refl (c .before .before .before .before .before .before .before .before .put-part .ensures) room)
+    (c .before .before .put-start .ensures ∙ i-stored (a .send .0) (a .receive .0) octets (a .out .now) refl (c .before .before .before .before .before .before .before .before .put-octets .ensures) room)
 
 pub write-i-octets-spec : {M : Type 1} → statement M
 write-i-octets-spec =
@@ -110,7 +111,7 @@ write-i-octets-spec =
     returns-2
     add-if3
     returns-3
-    put-part-requires
+    put-octets-requires
     add-put-start
     cast-put-start
     mul-put-start

@@ -15,18 +15,18 @@ returns c = simp (sym (c .before .too-few .ensures)) (simp (c .if1 .taken))
 on-hand-requires : tie.Need-on-hand-requires
 on-hand-requires c κs = search needs
 
-cast-missing : tie.Need-cast-missing
-cast-missing c = search needs
+cast-up-to : tie.Need-cast-up-to
+cast-up-to c = search needs
 
-add-missing : tie.Need-add-missing
-add-missing c = search needs
+add-up-to : tie.Need-add-up-to
+add-up-to c = search needs
 
-missing-requires : tie.Need-missing-requires
-missing-requires c κs = search needs
+up-to-requires : tie.Need-up-to-requires
+up-to-requires c κs = search needs
 
 returns-2 : tie.Need-returns-2
 unfolding moving
-returns-2 c = simp (sym (c .before .before .before .too-few .ensures)) (simp (c .before .before .if1 .left) (c .missing .ensures ∙ simp (c .before .on-hand .ensures)))
+returns-2 c = simp (sym (c .before .before .before .too-few .ensures)) (simp (c .before .before .if1 .left) (c .up-to .ensures ∙ simp (c .before .on-hand .ensures)))
 
 pub to-move-spec : {M : Type 1} → statement M
 to-move-spec =
@@ -35,7 +35,7 @@ to-move-spec =
     too-few-requires
     returns
     on-hand-requires
-    cast-missing
-    add-missing
-    missing-requires
+    cast-up-to
+    add-up-to
+    up-to-requires
     returns-2)

@@ -2,7 +2,7 @@
 use native.Mathlib.Omega.{arith}
 use borrow.Author.Needs.{needs}
 use Rattle.elements.proofs.Refused.{none, some}
-use Rattle.assembly.proofs.Moves.{refuse, accept, room, fits}
+use Rattle.assembly.proofs.Moves.{refuse, accept, room}
 use Rattle.assembly.proofs.topping.top_up.Statement.{statement}
 use Rattle.assembly.proofs.topping.top_up.Tie as tie
 
@@ -31,12 +31,8 @@ to-move-requires c κs =
 part-to-requires : tie.Need-part-to-requires
 part-to-requires c κs = search needs
 
-put-part-requires : tie.Need-put-part-requires
-put-part-requires c κs =
-    let s = c .before .before .before .before in
-    let none = none _ (s .before .before .refusal-of .ensures) (s .before .is-none .ensures) (s .if1 .left) in
-    let a = s .before .before .before .before .before .before .args in
-    fits (a .carry .now) (a .held) (a .chunk .now) none (c .before .before .to-move .ensures) (c .part-to .ensures)
+put-octets-requires : tie.Need-put-octets-requires
+put-octets-requires c κs = search needs
 
 same-length-2 : tie.Need-same-length-2
 same-length-2 c = search needs
@@ -46,7 +42,7 @@ returns-2 c =
     let s = c .before .before .before .before .before .before .before in
     let none = none _ (s .before .before .refusal-of .ensures) (s .before .is-none .ensures) (s .if1 .left) in
     let a = s .before .before .before .before .before .before .args in
-    accept (a .carry .now) (a .held) (a .chunk .now) none (c .before .before .before .before .before .to-move .ensures) (rw (c .before .before .before .part-to .ensures) at (c .before .before .put-part .ensures))
+    accept (a .carry .now) (a .held) (a .chunk .now) none (c .before .before .before .before .before .to-move .ensures) (rw (c .before .before .before .part-to .ensures) at (c .before .before .put-octets .ensures))
 
 pub top-up-spec : {M : Type 1} → statement M
 top-up-spec =
@@ -58,6 +54,6 @@ top-up-spec =
     returns
     to-move-requires
     part-to-requires
-    put-part-requires
+    put-octets-requires
     same-length-2
     returns-2)

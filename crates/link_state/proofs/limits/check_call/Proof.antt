@@ -4,7 +4,7 @@ use mathlib.Core.Bool.{true}
 use borrow.Author.Needs.{needs}
 use borrow.Author.Tests.{lt-ltb, le-ltb}
 use Rattle.link_state.specs.Limits.{soundLink, callRefusal}
-use Rattle.link_state.proofs.Clauses.{failed, holds}
+use Rattle.laws.proofs.Clauses.{failed, holds}
 use Rattle.link_state.proofs.limits.check_call.Statement.{statement}
 use Rattle.link_state.proofs.limits.check_call.Tie as tie
 

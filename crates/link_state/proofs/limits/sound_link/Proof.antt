@@ -4,7 +4,7 @@ use mathlib.Core.Bool.{true}
 use native.Mathlib.Omega.{arith}
 use borrow.Author.Needs.{needs}
 use Rattle.link_state.specs.Limits.{soundLink, soundSettings, soundCounts}
-use Rattle.link_state.proofs.Clauses.{failed, holds}
+use Rattle.laws.proofs.Clauses.{failed, holds}
 use Rattle.link_state.proofs.Sound.{Sound, sound-counts}
 use Rattle.link_state.proofs.limits.sound_link.Statement.{statement}
 use Rattle.link_state.proofs.limits.sound_link.Tie as tie

@@ -6,7 +6,7 @@ use borrow.Author.Needs.{needs}
 use borrow.Author.Tests.{lt-ltb, le-ltb}
 use Rattle.link_state.specs.Limits.{soundSettings}
 use Rattle.link_state.specs.Opening.{opened, openRefusal}
-use Rattle.link_state.proofs.Clauses.{failed, holds}
+use Rattle.laws.proofs.Clauses.{failed, holds}
 use Rattle.link_state.proofs.Sound.{t3-small}
 use Rattle.link_state.proofs.opening.open.Statement.{statement}
 use Rattle.link_state.proofs.opening.open.Tie as tie

@@ -1,22 +1,27 @@
--- `link_steps::putting::put_octets` meets its contract: what is left to store, stored, gives the whole. Assumes nothing.
-use Prim.Native.Nat.{ℕ, _+_, _-_, _≤_}
+-- `laws::put_octets` meets its contract: what is left to store, stored, gives the whole. Assumes nothing.
+use Prim.Native.Nat.{ℕ, _+_, _-_, _≤_, min}
 use mathlib.Core.Path.{_≡_, refl, sym, ap, _∙_}
 use native.Mathlib.Omega.{arith}
 use native.Mathlib.Nat.{add-zero}
-use lib.ListN.{length, drop, length-set, drop-of-length-le}
+use lib.ListN.{length, drop, length-set}
 use lib.Seq.{sets}
-use Rattle.apdu.proofs.Answers.{one-more}
-use Rattle.link_steps.proofs.putting.put_octets.Statement.{statement}
-use Rattle.link_steps.proofs.putting.put_octets.Tie as tie
+use borrow.Author.Needs.{needs}
+use Rattle.laws.proofs.Lists.{sets-turn, sets-stop}
+use Rattle.laws.proofs.put_octets.Statement.{statement}
+use Rattle.laws.proofs.put_octets.Tie as tie
 
 abbrev Inv-loop : tie.InvT-loop
-Inv-loop out₀ at octets i₀ out i = (i ≤ length octets) × (length out ≡ length out₀) × (sets out (at + i) (drop i octets) ≡ sets out₀ at octets)
+Inv-loop out₀ at octets n i₀ out i = (i ≤ n) × (length out ≡ length out₀) × (sets out (at + i) (drop i octets) ≡ sets out₀ at octets)
 
 abbrev μ-loop : tie.MeasureT-loop
-μ-loop out₀ at octets i₀ out i = length octets - i
+μ-loop out₀ at octets n i₀ out i = n - i
+
+up-to-requires : tie.Need-up-to-requires Inv-loop μ-loop
+up-to-requires c κs = search needs
 
 loop-holds : tie.Need-loop-holds Inv-loop μ-loop
-loop-holds c = let a = c .args in
+loop-holds c =
+    let a = c .before .before .before .args in
     (omega arith, refl, ap (λ (n : ℕ). sets (a .out .now) n (a .octets .now)) (add-zero (a .at)))
 
 shared-slice-read-out : tie.Need-shared-slice-read-out Inv-loop μ-loop
@@ -37,8 +42,8 @@ loop-less c = omega arith
 loop-again : tie.Need-loop-again Inv-loop μ-loop
 loop-again c =
     let l = c .before .before .loop in
-    let octets = c .before .before .before .args .octets .now in
-    (omega arith, simp length-set (l .inv .1), one-more (l .out) (c .before .before .before .args .at) (l .i) octets (omega arith) ∙ l .inv .2)
+    let a = c .before .before .before .before .before .before .args in
+    (omega arith, simp length-set (l .inv .1), sets-turn (l .out) (a .at) (l .i) (a .octets .now) 0 (omega arith) ∙ l .inv .2)
 
 same-length : tie.Need-same-length Inv-loop μ-loop
 same-length c = c .before .loop .inv .1
@@ -46,9 +51,9 @@ same-length c = c .before .loop .inv .1
 returns : tie.Need-returns Inv-loop μ-loop
 returns c =
     let l = c .before .loop in
-    let octets = c .before .before .args .octets .now in
-    let h : length octets ≤ l .i = omega arith in
-    sym (ap (sets (l .out) (c .before .before .args .at + l .i)) (drop-of-length-le octets h)) ∙ l .inv .2
+    let a = c .before .before .before .before .before .args in
+    let ended : min (length (l .out) - a .at) (length (a .octets .now)) ≤ l .i = omega arith in
+    sym (sets-stop (l .out) (a .at) (l .i) (a .octets .now) ended) ∙ l .inv .2
 
 pub put-octets-spec : {M : Type 1} → statement M
 put-octets-spec =
@@ -56,6 +61,7 @@ put-octets-spec =
     (tie.spec
     Inv-loop
     μ-loop
+    up-to-requires
     loop-holds
     shared-slice-read-out
     add-out
