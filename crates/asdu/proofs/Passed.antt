@@ -12,7 +12,7 @@ use Rattle.elements.specs.Refusals.{refusal}
 use Rattle.elements.specs.declared.refusals.Refusal.{Refusal}
 use Rattle.objects.specs.Kinds.{kindOf}
 use Rattle.objects.specs.declared.kinds.KindAnswer.{KindAnswer}
-use Rattle.asdu.specs.Header.{causeListed, causeIn, startRefusal, headerRefusal, headerBy, headerAnswer}
+use Rattle.asdu.specs.Header.{causeListed, causeIn, earlyRefusal, headerRefusal, headerBy, headerAnswer}
 use Rattle.asdu.specs.Reading.{refusalBy, readRefusal}
 use Rattle.asdu.specs.Plain.{plainBy, plainAnswer}
 use Rattle.asdu.specs.declared.header.HeaderAnswer.the-variants as HeaderAnswer
@@ -21,8 +21,8 @@ use Rattle.asdu.specs.declared.PlainAnswer.the-variants as PlainAnswer
 
 -- ---- reading
 
-start-sized : (s : List ℕ) → startRefusal s ≡ 0 → (6 ≤ length s) × (length s ≤ 249)
-unfolding startRefusal
+start-sized : (s : List ℕ) → earlyRefusal s ≡ 0 → (6 ≤ length s) × (length s ≤ 249)
+unfolding earlyRefusal
 start-sized s h =
     let long = passed (ltb 249 (length s)) 16 _ h in
     let short = passed (ltb (length s) 3) 8 _ (long .1) in
@@ -37,7 +37,7 @@ header-passed s k false e h = h
 
 pub read-sized : (s : List ℕ) → readRefusal s ≡ 0 → (6 ≤ length s) × (length s ≤ 249)
 unfolding readRefusal headerAnswer headerRefusal
-read-sized s h = start-sized s (both (startRefusal s) _ (header-passed s (kindOf (getD s 0 0)) (eqb (headerRefusal s) 0) refl h) .0)
+read-sized s h = start-sized s (both (earlyRefusal s) _ (header-passed s (kindOf (getD s 0 0)) (eqb (headerRefusal s) 0) refl h) .0)
 
 -- ---- plain form
 

@@ -36,7 +36,7 @@ use Rattle.link.specs.declared.answers.LinkAnswer.the-variants as LinkAnswer
 use Rattle.link.proofs.Wires.{wire-append}
 use Rattle.link_meaning.specs.Abstract.{Abstract, Result, fresh, step}
 use Rattle.link_meaning.specs.Effects.{asdusOf}
-use Rattle.link_meaning.specs.Meaning.{OctetsIn, waitingOf, timesOf, Same}
+use Rattle.link_meaning.specs.Meaning.{OctetsIn, waitingOf, timesOf, SameOutcome}
 use Rattle.link_meaning.specs.Runs.{Agrees}
 use Rattle.link_meaning.specs.Runs as totals
 use Rattle.link_meaning.proofs.Meaning.{steps-alike, opens-fresh}

@@ -25,7 +25,7 @@ pub data Range (n : ℕ) : Type 0 where
   none : n ≡ 0 → Range n
   from-19-to-24 : 19 ≤ n → n ≤ 24 → Range n
 
-first-range : (l : Link) (output pool now : ℕ) → Range (callRefusal l output pool now)
+pub first-range : (l : Link) (output pool now : ℕ) → Range (callRefusal l output pool now)
 unfolding callRefusal
 first-range l output pool now =
     picked Range (soundLink l)
