@@ -1,45 +1,8 @@
-// The link of the proved library for the programs that test it. The caller keeps a link as a list of numbers
-// (cells.rt), and after it how many octets a call wrote, whether the window is full, and whether an ASDU came: 74 in
-// all. Each function answers document 01's number of refusal, 0 for none.
-pub mod cells;
-
-use link::answers::Called;
-use link::answers::LinkAnswer;
+// The link of the proved library for the programs that test it. The caller keeps a link as a list of 74 numbers
+// (bridge_cells). Each function answers document 01's number of refusal, 0 for none.
+use bridge_cells::called;
+use bridge_cells::cells;
 use link_state::opening;
-
-pub const WRITTEN: usize = 71;
-
-pub const FULL: usize = 72;
-
-pub const CAME: usize = 73;
-
-fn put_answer(list: &mut [u64], written: usize, full: bool, came: bool) {
-    cells::put_cell(list, WRITTEN, written as u64);
-    cells::put_mark(list, FULL, full);
-    cells::put_mark(list, CAME, came);
-}
-
-// Beside a refusal nothing was written and nothing came; the window is what it is.
-fn put_called(list: &mut [u64], called: Called) -> u32 {
-    let link = called.link;
-    let answer = called.answer;
-    cells::put_link(list, link);
-    match answer {
-        LinkAnswer::Done(done) => {
-            put_answer(list, done.written, done.full, done.came);
-            0
-        }
-        LinkAnswer::Refused(refusal) => {
-            put_answer(
-                list,
-                0,
-                link.state.settings.k <= link.state.window.held,
-                false,
-            );
-            laws::wide(refusal.0)
-        }
-    }
-}
 
 // With the settings that the list has.
 #[no_mangle]
@@ -48,7 +11,7 @@ pub extern "C" fn gg_link_open(list: &mut [u64], moment: u64) -> u32 {
     let link = opened.link;
     let answer = opened.answer;
     cells::put_link(list, link);
-    put_answer(list, 0, false, false);
+    called::put_answer(list, 0, false, false);
     laws::wide(answer.refusal().0)
 }
 
@@ -61,7 +24,7 @@ pub extern "C" fn gg_link_receive(
     more: bool,
     moment: u64,
 ) -> u32 {
-    put_called(
+    called::put_called(
         list,
         link_receive::receive(cells::link_in(list), pool, out, f, more, moment),
     )
@@ -75,7 +38,7 @@ pub extern "C" fn gg_link_send(
     asdu: &[u8],
     moment: u64,
 ) -> u32 {
-    put_called(
+    called::put_called(
         list,
         link_send::send(cells::link_in(list), pool, out, asdu, moment),
     )
@@ -83,7 +46,7 @@ pub extern "C" fn gg_link_send(
 
 #[no_mangle]
 pub extern "C" fn gg_link_stop(list: &mut [u64], pool: &[u8], out: &mut [u8], moment: u64) -> u32 {
-    put_called(
+    called::put_called(
         list,
         link_time::stop(cells::link_in(list), pool, out, moment),
     )
@@ -91,7 +54,7 @@ pub extern "C" fn gg_link_stop(list: &mut [u64], pool: &[u8], out: &mut [u8], mo
 
 #[no_mangle]
 pub extern "C" fn gg_link_test(list: &mut [u64], pool: &[u8], out: &mut [u8], moment: u64) -> u32 {
-    put_called(
+    called::put_called(
         list,
         link_time::test(cells::link_in(list), pool, out, moment),
     )
@@ -99,7 +62,7 @@ pub extern "C" fn gg_link_test(list: &mut [u64], pool: &[u8], out: &mut [u8], mo
 
 #[no_mangle]
 pub extern "C" fn gg_link_tick(list: &mut [u64], pool: &[u8], out: &mut [u8], moment: u64) -> u32 {
-    put_called(
+    called::put_called(
         list,
         link_time::tick(cells::link_in(list), pool, out, moment),
     )

@@ -1,6 +1,6 @@
 // An element as the list of its fields, an octet each: 0 or 1 for a mark, the number of a state. A cause of
-// initialisation is 0 to 2 for a named one or 3 for another, and then the cause.
-ghost use Prim.Native.Nat.{_≤_};
+// initialisation is 0 to 2 for a named one or 3 for another, and then the cause. A place is a u8, so that no sum of one
+// overflows.
 use elements::information_elements::Coi;
 use elements::information_elements::Diq;
 use elements::information_elements::Dpi;
@@ -13,31 +13,28 @@ fn mark(fields: &[u8], at: usize) -> bool {
     laws::octet_at(fields, at) == 1
 }
 
-fn put_marks(fields: &mut [u8], at: usize, iv: bool, nt: bool, sb: bool, bl: bool)
-    requires { ⌜ at ≤ 16 ⌝ }
-{
-    laws::put_octet(fields, at, laws::bit(iv));
-    laws::put_octet(fields, at + 1, laws::bit(nt));
-    laws::put_octet(fields, at + 2, laws::bit(sb));
-    laws::put_octet(fields, at + 3, laws::bit(bl));
+fn put_marks(fields: &mut [u8], at: u8, iv: bool, nt: bool, sb: bool, bl: bool) {
+    let place = at as usize;
+    laws::put_octet(fields, place, laws::bit(iv));
+    laws::put_octet(fields, place + 1, laws::bit(nt));
+    laws::put_octet(fields, place + 2, laws::bit(sb));
+    laws::put_octet(fields, place + 3, laws::bit(bl));
 }
 
-pub fn put_qds(fields: &mut [u8], at: usize, qds: Qds)
-    requires { ⌜ at ≤ 16 ⌝ }
-{
+pub fn put_qds(fields: &mut [u8], at: u8, qds: Qds) {
+    let place = at as usize;
     put_marks(fields, at, qds.iv, qds.nt, qds.sb, qds.bl);
-    laws::put_octet(fields, at + 4, laws::bit(qds.ov));
+    laws::put_octet(fields, place + 4, laws::bit(qds.ov));
 }
 
-pub fn qds_at(fields: &[u8], at: usize) -> Qds
-    requires { ⌜ at ≤ 16 ⌝ }
-{
+pub fn qds_at(fields: &[u8], at: u8) -> Qds {
+    let place = at as usize;
     Qds {
-        iv: mark(fields, at),
-        nt: mark(fields, at + 1),
-        sb: mark(fields, at + 2),
-        bl: mark(fields, at + 3),
-        ov: mark(fields, at + 4),
+        iv: mark(fields, place),
+        nt: mark(fields, place + 1),
+        sb: mark(fields, place + 2),
+        bl: mark(fields, place + 3),
+        ov: mark(fields, place + 4),
     }
 }
 
@@ -75,23 +72,21 @@ pub fn diq_in(fields: &[u8]) -> Diq {
     }
 }
 
-pub fn put_seq_qd(fields: &mut [u8], at: usize, seq_qd: SeqQd)
-    requires { ⌜ at ≤ 16 ⌝ }
-{
-    laws::put_octet(fields, at, laws::bit(seq_qd.iv));
-    laws::put_octet(fields, at + 1, laws::bit(seq_qd.ca));
-    laws::put_octet(fields, at + 2, laws::bit(seq_qd.cy));
-    laws::put_octet(fields, at + 3, seq_qd.seq);
+pub fn put_seq_qd(fields: &mut [u8], at: u8, seq_qd: SeqQd) {
+    let place = at as usize;
+    laws::put_octet(fields, place, laws::bit(seq_qd.iv));
+    laws::put_octet(fields, place + 1, laws::bit(seq_qd.ca));
+    laws::put_octet(fields, place + 2, laws::bit(seq_qd.cy));
+    laws::put_octet(fields, place + 3, seq_qd.seq);
 }
 
-pub fn seq_qd_at(fields: &[u8], at: usize) -> SeqQd
-    requires { ⌜ at ≤ 16 ⌝ }
-{
+pub fn seq_qd_at(fields: &[u8], at: u8) -> SeqQd {
+    let place = at as usize;
     SeqQd {
-        iv: mark(fields, at),
-        ca: mark(fields, at + 1),
-        cy: mark(fields, at + 2),
-        seq: laws::octet_at(fields, at + 3),
+        iv: mark(fields, place),
+        ca: mark(fields, place + 1),
+        cy: mark(fields, place + 2),
+        seq: laws::octet_at(fields, place + 3),
     }
 }
 

@@ -1,6 +1,6 @@
 // Numbers of fields: the high octet first, and a signed number moved up by half its range, so that they do not look
 // like their octets on the wire.
-ghost use Prim.Native.Nat.{_≤_, _<_};
+ghost use Prim.Native.Nat.{_<_};
 use elements::numbers;
 
 pub fn number16(octets: &[u8]) -> u32
@@ -13,18 +13,18 @@ pub fn number32(octets: &[u8]) -> u32 {
     number16(octets) * 65536 + number16(laws::part_from(octets, 2))
 }
 
-pub fn put_number16(octets: &mut [u8], at: usize, n: u32)
-    requires { ⌜ at ≤ 16 ⌝ }
-{
-    laws::put_octet(octets, at, laws::low(n / 256));
-    laws::put_octet(octets, at + 1, laws::low(n));
+pub fn put_number16(octets: &mut [u8], at: u8, n: u32) {
+    let place = at as usize;
+    laws::put_octet(octets, place, laws::low(n / 256));
+    laws::put_octet(octets, place + 1, laws::low(n));
 }
 
-pub fn put_number32(octets: &mut [u8], at: usize, n: u32)
-    requires { ⌜ at ≤ 12 ⌝ }
-{
-    put_number16(octets, at, n / 65536);
-    put_number16(octets, at + 2, n);
+pub fn put_number32(octets: &mut [u8], at: u8, n: u32) {
+    let place = at as usize;
+    laws::put_octet(octets, place, laws::low(n / 0x1000000));
+    laws::put_octet(octets, place + 1, laws::low(n / 0x10000));
+    laws::put_octet(octets, place + 2, laws::low(n / 256));
+    laws::put_octet(octets, place + 3, laws::low(n));
 }
 
 pub fn raised8(value: i8) -> u8 {

@@ -1,6 +1,5 @@
 // Assembling of the proved library for the programs that test it, beside crates `bridge` and `bridge_frames`. An answer is
 // a number: that of the refusal; or what it is, how many bytes were moved, and how many the frame has.
-ghost use Prim.Native.Nat.{_≤_};
 use assembly::picking;
 use assembly::picking::PickAnswer;
 use assembly::stepping;
@@ -8,19 +7,17 @@ use assembly::stepping::StepAnswer;
 use assembly::topping;
 use assembly::topping::TopUpAnswer;
 
-const CARRY: u32 = 1;
+const CARRY: u8 = 1;
 
-const CHUNK: u32 = 2;
+const CHUNK: u8 = 2;
 
-const MORE: u32 = 3;
+const MORE: u8 = 3;
 
 // Above any octet.
 const PAST_THE_END: u32 = 256;
 
-fn told(what: u32, moved: usize, size: usize) -> u32
-    requires { ⌜ what ≤ 3 ⌝ }
-{
-    what * 0x1000000 + ((moved % 0x1000) as u32) * 0x1000 + ((size % 0x1000) as u32)
+fn told(what: u8, moved: usize, size: usize) -> u32 {
+    laws::wide(what) * 0x1000000 + ((moved % 0x1000) as u32) * 0x1000 + ((size % 0x1000) as u32)
 }
 
 // Moved bytes are told as where more is needed.

@@ -20,24 +20,15 @@
 // was written, whether the window is full, whether an ASDU came, how many frames are outstanding and how many ASDUs wait,
 // whether the link is closed and by which number. `-` stands for an empty HEX, a mark is 0 or 1, other numbers are decimal
 // and have 64 bits. Any other line is `bad`.
-mod answers;
-mod asdus;
-mod frames;
-mod hex;
 mod links;
-mod numbers;
-mod streams;
-mod text;
-mod values;
 
-use hex::HexAnswer;
+use drive_link::commands;
+use drive_link::commands::Command;
 use libc::STDIN_FILENO;
 use libc::STDOUT_FILENO;
+use test_text::answers;
+use test_text::text;
 
-// The longest line that is taken, and the most octets that it can hold.
-const LINE_SIZE: usize = 4096;
-
-const OCTETS_SIZE: usize = LINE_SIZE / 2;
 // The longest answer, of a link that hands out 16 full frames, has under 8,300 bytes.
 const ANSWER_SIZE: usize = 8320;
 
@@ -47,53 +38,21 @@ struct Input {
     held: usize,
 }
 
-fn put_answer(out: &mut [u8], command: &[u8], given: &[u8]) -> usize {
-    if check::same(command, b"frame") {
-        return frames::put_reading(out, given);
-    }
-    if check::same(command, b"plain") {
-        return frames::put_plain(out, given);
-    }
-    if check::same(command, b"rewrite") {
-        return frames::put_rewritten(out, given);
-    }
-    if check::same(command, b"asdu") {
-        return asdus::put_reading(out, given);
-    }
-    if check::same(command, b"plainasdu") {
-        return asdus::put_plain(out, given);
-    }
-    if check::same(command, b"rewriteasdu") {
-        return asdus::put_rewritten(out, given);
-    }
-    answers::put_bad(out)
-}
-
-// The octets of a command that has them in one text.
-fn answer_octets(out: &mut [u8], command: &[u8], digits: &[u8]) -> usize {
-    let mut octets = [0u8; OCTETS_SIZE];
-    let taken = hex::take_octets(digits, &mut octets);
-    let HexAnswer::Octets(n) = taken else {
-        return answers::put_bad(out);
-    };
-    put_answer(out, command, text::part_to(&octets, n))
-}
-
 // A command and what it is given, with one space between.
 fn answer(out: &mut [u8], line: &[u8], list: &mut [u64], pool: &mut [u8]) -> usize {
     let space = text::find(line, b' ');
-    let command = text::part_to(line, space);
+    let name = text::part_to(line, space);
     let given = laws::part_from(line, std::num::wrapping_add_usize(space, 1));
-    if check::same(command, b"topup") {
-        return streams::put_topped(out, given);
+    let command = commands::command_of(name);
+    match command {
+        Command::Open => links::put_opened(out, given, list),
+        Command::Receive => links::put_received(out, given, list, pool),
+        Command::Send => links::put_sent(out, given, list, pool),
+        Command::Timed(which) => links::put_timed(out, which, given, list, pool),
+        Command::TopUp => drive_streams::put_topped(out, given),
+        Command::Pick => drive_streams::put_picked(out, given),
+        Command::Other => drive_frames::put_answer(out, name, given),
     }
-    if check::same(command, b"pick") {
-        return streams::put_picked(out, given);
-    }
-    if links::is_command(command) {
-        return links::put_answer(out, command, given, list, pool);
-    }
-    answer_octets(out, command, given)
 }
 
 // A line that is longer than its buffer is bad.
@@ -187,9 +146,9 @@ fn take_all(line: &mut [u8], out: &mut [u8], list: &mut [u64], pool: &mut [u8]) 
 }
 
 fn main() {
-    let mut line = [0u8; LINE_SIZE];
+    let mut line = [0u8; test_text::LINE_SIZE];
     let mut out = [0u8; ANSWER_SIZE];
-    let mut list = [0u64; links::LIST_SIZE];
+    let mut list = [0u64; drive_link::LIST_SIZE];
     let mut pool = [0u8; links::POOL_SIZE];
     let held = take_all(&mut line, &mut out, &mut list, &mut pool);
     if 0 < held {

@@ -1,11 +1,11 @@
 // The library's answer on an ASDU.
-use crate::text;
 use bridge::asdus;
+use test_text::text;
 
 // The record's header and its own objects.
 fn record_is(record: &[u8; 2048], told: &[u8]) -> bool {
     let objects = laws::octet_at(record, 8) as usize;
-    check::same(text::start_of(record, 9 + objects * 16), told)
+    check::same(text::part_to(record, 9 + objects * 16), told)
 }
 
 // Told is 0 and the record, or the number of the refusal.
@@ -25,7 +25,7 @@ pub fn reads(given: &[u8], told: &[u8]) -> bool {
 }
 
 fn written_is(out: &[u8; 256], len: usize, told: &[u8]) -> bool {
-    check::same(text::start_of(out, len), told)
+    check::same(text::part_to(out, len), told)
 }
 
 // Told is what its reading is written as. It is plain exactly if that is what was given.

@@ -1,16 +1,16 @@
 // The library's answer on a frame.
 use crate::asdus;
-use crate::text;
+use test_text::text;
 
 // How many octets of what is told are the frame's: 0 and its fields.
 const TOLD_SIZE: usize = 12;
 
 fn same_start(fields: &[u8; TOLD_SIZE], told: &[u8]) -> bool {
-    check::same(fields, text::start_of(told, TOLD_SIZE))
+    check::same(fields, text::part_to(told, TOLD_SIZE))
 }
 
 fn asdu_reads(part: &[u8; 256], len: usize, told: &[u8]) -> bool {
-    asdus::reads(text::start_of(part, len), told)
+    asdus::reads(text::part_to(part, len), told)
 }
 
 // An I frame's ASDU is told after it; the others have none.
@@ -40,7 +40,7 @@ pub fn reads(given: &[u8], told: &[u8]) -> bool {
 }
 
 fn written_is(out: &[u8; 256], len: usize, told: &[u8]) -> bool {
-    check::same(text::start_of(out, len), told)
+    check::same(text::part_to(out, len), told)
 }
 
 // Told is what its reading is written as. It is plain exactly if that is what was given.

@@ -3,11 +3,12 @@
 // each.
 ghost use Prim.Native.Nat.{_≤_};
 use crate::asdus;
+use crate::digits;
 use crate::frames;
 use crate::octets;
 use crate::streams;
-use crate::text;
 use bridge_records::raised;
+use test_text::text;
 
 const MAX_GIVEN: usize = 256;
 
@@ -30,7 +31,7 @@ const SHAPE_OF_OCTETS: Shape = Shape {
 
 fn number_at(line: &[u8], at: usize) -> usize {
     let mut octets = [0u8; 2];
-    text::take_octets(laws::part_from(line, at), &mut octets, 2);
+    digits::take_octets(laws::part_from(line, at), &mut octets, 2);
     raised::number16(&octets) as usize
 }
 
@@ -76,7 +77,7 @@ fn put_number(line: &mut [u8], at: usize, n: usize)
 {
     let mut octets = [0u8; 2];
     raised::put_number16(&mut octets, 0, n as u32);
-    text::put_octets(line, at, &octets, 2);
+    digits::put_octets(line, at, &octets, 2);
 }
 
 fn put_head(line: &mut [u8], kind: u8, shape: Shape)
@@ -94,13 +95,13 @@ fn put_line(line: &mut [u8], kind: u8, shape: Shape, given: &[u8], told: &[u8])
 {
     let after = shape.at + shape.given * 2;
     put_head(line, kind, shape);
-    text::put_octets(line, shape.at, given, shape.given);
-    text::put_octets(line, after + 1, told, shape.told);
+    digits::put_octets(line, shape.at, given, shape.given);
+    digits::put_octets(line, after + 1, told, shape.told);
     laws::put_octet(line, after + 1 + shape.told * 2, b'\n');
 }
 
 fn is_written_as(line: &[u8], again: &[u8; MAX_LINE]) -> bool {
-    check::same(line, text::start_of(again, length(line)))
+    check::same(line, text::part_to(again, length(line)))
 }
 
 fn answers(kind: u8, given: &[u8], told: &[u8]) -> bool {
@@ -117,8 +118,8 @@ fn answers(kind: u8, given: &[u8], told: &[u8]) -> bool {
 fn answers_by(kind: u8, shape: Shape, given: &[u8; MAX_GIVEN], told: &[u8; MAX_TOLD]) -> bool {
     answers(
         kind,
-        text::start_of(given, shape.given),
-        text::start_of(told, shape.told),
+        text::part_to(given, shape.given),
+        text::part_to(told, shape.told),
     )
 }
 
@@ -128,9 +129,9 @@ pub fn agrees(line: &[u8]) -> bool {
     let kind = laws::octet_at(line, 0);
     let told_at = shape.at + shape.given * 2 + 1;
     let mut given = [0u8; MAX_GIVEN];
-    text::take_octets(laws::part_from(line, shape.at), &mut given, shape.given);
+    digits::take_octets(laws::part_from(line, shape.at), &mut given, shape.given);
     let mut told = [0u8; MAX_TOLD];
-    text::take_octets(laws::part_from(line, told_at), &mut told, shape.told);
+    digits::take_octets(laws::part_from(line, told_at), &mut told, shape.told);
     let mut again = [b' '; MAX_LINE];
     put_line(&mut again, kind, shape, &given, &told);
     is_written_as(line, &again) && answers_by(kind, shape, &given, &told)

@@ -2,15 +2,16 @@
 // Standard input is the stored sample, made by `tools/differential sample` (host/src/sample.rs, seed 104). Each line
 // that the library's answer does not agree with, or that is broken, is shown.
 mod asdus;
+mod digits;
 mod frames;
 mod lines;
 mod octets;
 mod streams;
-mod text;
 
 use libc::STDIN_FILENO;
 use libc::STDOUT_FILENO;
 use lines::MAX_LINE;
+use test_text::text;
 
 const HEAD: usize = 12;
 
@@ -37,11 +38,11 @@ fn read_line(line: &mut [u8]) -> usize {
 }
 
 fn agrees(line: &[u8; MAX_LINE], len: usize) -> bool {
-    lines::agrees(text::start_of(line, len))
+    lines::agrees(text::part_to(line, len))
 }
 
 fn show(line: &[u8; MAX_LINE], len: usize) {
-    io::write_all(STDOUT_FILENO, text::start_of(line, len));
+    io::write_all(STDOUT_FILENO, text::part_to(line, len));
 }
 
 fn replay_one(tally: Tally) -> Tally {

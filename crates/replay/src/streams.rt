@@ -1,11 +1,11 @@
 // The library's answer to one step of assembling.
-use crate::text;
 use bridge_records::raised;
+use test_text::text;
 
 const CARRY_SIZE: usize = 255;
 
 fn same_start(carry: &[u8; CARRY_SIZE], given: &[u8], n: usize) -> bool {
-    check::same(text::start_of(carry, n), text::start_of(given, n))
+    check::same(text::part_to(carry, n), text::part_to(given, n))
 }
 
 // The carry holds the first bytes of what is given, and the rest is the chunk. Told is how many it holds, and the answer's
@@ -13,7 +13,7 @@ fn same_start(carry: &[u8; CARRY_SIZE], given: &[u8], n: usize) -> bool {
 pub fn steps(given: &[u8], told: &[u8]) -> bool {
     let held = laws::octet_at(told, 0) as usize;
     let mut carry = [0u8; CARRY_SIZE];
-    bridge_streams::gg_stream_top_up(&mut carry, 0, text::start_of(given, held));
+    bridge_streams::gg_stream_top_up(&mut carry, 0, text::part_to(given, held));
     let number = bridge_streams::gg_stream_step(&mut carry, held, laws::part_from(given, held));
     if number != raised::number32(laws::part_from(told, 1)) {
         return false;
