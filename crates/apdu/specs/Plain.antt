@@ -11,6 +11,7 @@ use Rattle.apdu.specs.Reading.{frameAnswer}
 use Rattle.apdu.specs.declared.frame.FrameAnswer.{FrameAnswer}
 use Rattle.apdu.specs.declared.frame.FrameAnswer.the-variants.{I, S, U, Refused}
 
+-- by the answer of reading; a frame that does not read gets its refusal
 abbrev pub plainFrameBy : FrameAnswer → List ℕ → PlainAnswer
 plainFrameBy (I s r) f = plainAnswer (drop 6 f)
 plainFrameBy (S r) f = pick (eqb (getD f 4 0 % 2) 0) PlainAnswer.Plain PlainAnswer.Reserved

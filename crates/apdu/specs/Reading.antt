@@ -16,7 +16,7 @@ use Rattle.apdu.specs.declared.frame.FrameAnswer.the-variants.{I, S, U, 
 unfoldable pub outerRefusal : List ℕ → ℕ
 outerRefusal f =
     pick (ltb (length f) 6) frameTooShort
-    (pick (eqb (getD f 0 0) 104)
+    (pick (eqb (getD f 0 0) 0x68)
     (pick (ltb 253 (getD f 1 0)) frameTooLong
     (pick (eqb (length f) (2 + getD f 1 0)) 0 lengthMismatch))
     wrongStart)

@@ -16,7 +16,7 @@ use Rattle.apdu.specs.declared.frame.UFrame.{UFrame}
 
 -- 68 hex, L, and the four control octets as two numbers of two octets each, a and b
 abbrev pub startOctets : ℕ → ℕ → ℕ → List ℕ
-startOctets length a b = 104 ∷ length ∷ (leOctets 2 a ++ leOctets 2 b)
+startOctets length a b = 0x68 ∷ length ∷ (leOctets 2 a ++ leOctets 2 b)
 
 -- the octets of each kind of frame
 unfoldable pub iOctets : ℕ → ℕ → List ℕ → List ℕ
@@ -32,6 +32,7 @@ uOctets u = startOctets 4 (uOctet u) 0
 unfoldable pub numberRefusal : ℕ → ℕ
 numberRefusal n = pick (ltb 32767 n) valueOutOfRange 0
 
+-- the send number, then the receive number
 unfoldable pub numbersRefusal : ℕ → ℕ → ℕ
 numbersRefusal s r = numberRefusal s then numberRefusal r
 
@@ -47,6 +48,7 @@ iRefusal s r a room = numbersRefusal s r then writeRefusal a (room - 6)
 unfoldable pub relayRefusal : ℕ → ℕ → List ℕ → ℕ → ℕ
 relayRefusal s r asdu room = numbersRefusal s r then readRefusal asdu then roomRefusal (6 + length asdu) room
 
+-- an S frame: 15, 18; a U frame has only 18
 unfoldable pub sRefusal : ℕ → ℕ → ℕ
 sRefusal r room = numberRefusal r then roomRefusal 6 room
 

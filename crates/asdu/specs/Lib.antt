@@ -1,3 +1,4 @@
+-- The definitions of this crate, bottom up.
 pub mod Header
 pub mod Records
 pub mod Reading

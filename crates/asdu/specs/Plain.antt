@@ -35,6 +35,7 @@ hasReserved k = anyReserved (formOf k)
 unfoldable pub plainElement : Header → List ℕ → ℕ → Bool
 plainElement h s i = plainForm (formOf (h .kind)) (drop (9 + i * stepOf (h .kind) (h .sequence)) s)
 
+-- every element; header and addresses have no reserved bit
 unfoldable pub plainObjects : Header → List ℕ → Bool
 plainObjects h s = every (plainElement h s) (h .count)
 

@@ -30,6 +30,7 @@ objectIn k false s i = objectOf k (drop (6 + i * stepOf k false) s)
 abbrev pub objectAt : Header → List ℕ → ℕ → Object
 objectAt h s i = objectIn (h .kind) (h .sequence) s i
 
+-- object i, or 14
 unfoldable pub answerAt : Header → List ℕ → ℕ → ObjectAnswer
 answerAt h s i = objectAnswer (objectAt h s i .address) (objectAt h s i .value)
 
@@ -47,6 +48,7 @@ objectsRefusal h s = firstOf (λ (i : ℕ). objectNumber (answerAt h s i)) 0 (h 
 unfoldable pub addressesRefusal : Bool → ℕ → List ℕ → ℕ
 addressesRefusal q n s = pick (q && ltb 16777216 (leOf 3 (drop 6 s) + n)) wrongAddress 0
 
+-- all objects, in order
 abbrev pub objectsIn : Header → List ℕ → List Object
 objectsIn h s = tabulate (objectAt h s) 0 (h .count)
 

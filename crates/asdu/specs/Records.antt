@@ -21,6 +21,7 @@ filled os = padded 127 blank os
 unfoldable pub blanks : List Object
 blanks = filled []
 
+-- the record of a header and 127 objects
 abbrev pub asduOf : Header → List Object → Asdu
 asduOf h os = record {
   objects = os;
@@ -48,6 +49,7 @@ noAsdu = record {
   address = 0;
 }
 
+-- a reading that is refused with this number
 abbrev pub refusedWith : ℕ → ReadAsdu
 refusedWith n = record { asdu = noAsdu; answer = Answer.Refused (refusal n) }
 

@@ -1,3 +1,4 @@
+-- The definitions of this crate, bottom up.
 pub mod Start
 pub mod Picking
 pub mod Topping

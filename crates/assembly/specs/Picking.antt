@@ -23,6 +23,7 @@ fromChunk (StartAnswer.Whole n) = Chunk n
 fromChunk StartAnswer.More = More
 fromChunk (StartAnswer.Refused r) = Refused r
 
+-- 33, then from the carry if it holds anything, else from the chunk
 unfoldable pub pickAnswer : List ℕ → ℕ → List ℕ → PickAnswer
 pickAnswer carry held chunk =
     pick (eqb (carryRefusal (length carry) held) 0)

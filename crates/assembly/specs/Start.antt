@@ -12,7 +12,7 @@ use Rattle.assembly.specs.declared.start.StartAnswer.the-variants.{Whole
 -- by the first byte and by L: 2, 3, 1
 unfoldable pub startRefusal : ℕ → ℕ → ℕ
 startRefusal first l =
-    pick (eqb first 104)
+    pick (eqb first 0x68)
     (pick (ltb 253 l) frameTooLong
     (pick (ltb l 4) frameTooShort 0))
     wrongStart
@@ -25,6 +25,7 @@ sight n first l =
     (pick (ltb n (2 + l)) More (Whole (2 + l)))
     (Refused (refusal (startRefusal first l))))
 
+-- what stands at the start of these bytes
 abbrev pub startAnswer : List ℕ → StartAnswer
 startAnswer s = sight (length s) (getD s 0 0) (getD s 1 0)
 

@@ -11,6 +11,7 @@ pub data End : Type 0 where
   rest : List ℕ → End
   refused : ℕ → ℕ → End
 
+-- the frames, and what ends them
 pub record StreamOutcome : Type 0 where
   pub frames : List (List ℕ)
   pub end : End
@@ -34,6 +35,7 @@ abbrev pub streamFrom : ℕ → ℕ → List ℕ → StreamOutcome
 streamFrom zero at s = noFrames (rest s)
 streamFrom (suc most) at s = outcomeBy (startAnswer s) at s (streamFrom most)
 
+-- the whole stream
 unfoldable pub stream : List ℕ → StreamOutcome
 stream s = streamFrom (length s) 0 s
 

@@ -11,6 +11,7 @@ use Rattle.assembly.specs.Start.{startRefusal, carryRefusal}
 use Rattle.assembly.specs.declared.topping.TopUpAnswer.{TopUpAnswer}
 use Rattle.assembly.specs.declared.topping.TopUpAnswer.the-variants.{Moved, Refused}
 
+-- the held bytes of the carry, then the chunk
 abbrev pub onHand : List ℕ → ℕ → List ℕ → List ℕ
 onHand carry held chunk = take held carry ++ chunk
 

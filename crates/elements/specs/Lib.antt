@@ -1,3 +1,4 @@
+-- The definitions of this crate, bottom up.
 pub mod Refusals
 pub mod Quality
 pub mod Points

@@ -44,7 +44,7 @@ pub record WrittenPair (answer : PairAnswer) (a b : ℕ) : Type 0 where
 
 -- VTI and its quality.
 pub record StepPair : Type 0 where
-  pub step : Bitwise vtiLayout 255
+  pub step : Bitwise vtiLayout 0xFF
   pub back : (v : Vti) → pairNumber (vtiAnswer v) ≡ 0 → vtiOf (pairFirst (vtiAnswer v)) (pairSecond (vtiAnswer v)) ≡ v
   pub again : (a b : ℕ) → a < 256 → b < 256 → WrittenPair (vtiAnswer (vtiOf a b)) (kept vtiLayout a) (kept qdsLayout b)
 
@@ -58,13 +58,13 @@ pub record PlainOctets (n : ℕ) : Type 0 where
   pub back : (v : ℕ) (rest : List ℕ) → v < 256 ^ n → leOf n (leOctets n v ++ rest) ≡ v
   pub again : (s : List ℕ) → Octets s → n ≤ length s → leOctets n (leOf n s) ≡ take n s
 
--- All octets and numbers of the carried types. The masks are document 01's: 241 is F1 hex, 243 F3, 255 FF.
+-- All octets and numbers of the carried types. The masks are document 01's.
 pub record OctetLevel : Type 0 where
-  pub qds : Octetwise qdsLayout 241 qdsOf (λ q. Octet (qdsOctet q))
-  pub counter : Octetwise seqQdLayout 255 seqQdOf seqQdAnswer
-  pub siq : Octetwise siqLayout 241 siqOf (λ q. Octet (siqOctet q))
-  pub diq : Octetwise diqLayout 243 diqOf (λ q. Octet (diqOctet q))
-  pub coi : Octetwise whole 255 coiOf coiAnswer
+  pub qds : Octetwise qdsLayout 0xF1 qdsOf (λ q. Octet (qdsOctet q))
+  pub counter : Octetwise seqQdLayout 0xFF seqQdOf seqQdAnswer
+  pub siq : Octetwise siqLayout 0xF1 siqOf (λ q. Octet (siqOctet q))
+  pub diq : Octetwise diqLayout 0xF3 diqOf (λ q. Octet (diqOctet q))
+  pub coi : Octetwise whole 0xFF coiOf coiAnswer
   pub vti : StepPair
   pub i16 : SignedOctets 2
   pub i32 : SignedOctets 4

@@ -43,9 +43,11 @@ refusing r s times pool = record { refused = r; state = s; times = times; pool =
 unfoldable pub closing : ℕ → State → List ℕ → List ℕ → Outcome
 closing r s times pool = record { refused = r; state = shut r s; times = times; pool = pool; frames = []; came = false }
 
+-- accepted, with what was made; and whether an ASDU came
 unfoldable pub accepting : Bool → List ℕ → Making → Outcome
 accepting came pool g = record { refused = 0; state = g .state; times = g .times; pool = pool; frames = g .frames; came = came }
 
+-- nothing is handed out yet
 abbrev pub start : State → List ℕ → Making
 start s times = record { state = s; times = times; frames = [] }
 
@@ -60,6 +62,7 @@ unfoldable pub sFreeing : AckAnswer → State → List ℕ → List ℕ → Bool
 sFreeing (AckAnswer.Frees d) s times pool more now = accepting false pool (ending more now (become (setT3 now) (release d now s times pool)))
 sFreeing (AckAnswer.Refused r) s times pool more now = closing (r .0) s times pool
 
+-- an S frame with this receive number
 unfoldable pub onS : ℕ → State → List ℕ → List ℕ → Bool → ℕ → Outcome
 onS number s times pool more now =
     sFreeing (acknowledged (s .window .next .0) (s .window .held) number) s times pool more now
@@ -74,6 +77,7 @@ iFreeing (AckAnswer.Frees d) s times pool more now =
     accepting true pool (ending more now (become (λ (m : State). setT3 now (startT2 now m)) (release d now (received s) times pool)))
 iFreeing (AckAnswer.Refused r) s times pool more now = closing (r .0) s times pool
 
+-- an I frame with this send number and this receive number
 unfoldable pub onI : ℕ → ℕ → State → List ℕ → List ℕ → Bool → ℕ → Outcome
 onI sent number s times pool more now =
     pick (eqb sent (s .receive .next .0))
@@ -95,6 +99,7 @@ testActed s times pool more now = accepting false pool (ending more now (become 
 unfoldable pub testConfirmed : State → List ℕ → List ℕ → Bool → ℕ → Outcome
 testConfirmed s times pool more now = accepting false pool (ending more now (become (λ (m : State). setT3 now (testsAnswered m)) (start s times)))
 
+-- exactly one of the four is answered
 unfoldable pub onU : UFrame → State → List ℕ → List ℕ → Bool → ℕ → Outcome
 onU u s times pool more now =
     pick (eqb (uOctet u) testAct) (testActed s times pool more now)
@@ -103,6 +108,7 @@ onU u s times pool more now =
     (pick (eqb (uOctet u) stopCon) (accepting false pool (become (stopped now) (start s times)))
     (closing uNotAnswered s times pool))))
 
+-- a frame that does not read closes the link with the reading's number
 unfoldable pub onAnswer : FrameAnswer → State → List ℕ → List ℕ → Bool → ℕ → Outcome
 onAnswer (FrameAnswer.I sent number) s times pool more now = onI (sent .0) (number .0) s times pool more now
 onAnswer (FrameAnswer.S number) s times pool more now = onS (number .0) s times pool more now
@@ -179,6 +185,7 @@ onTick s times pool now =
 
 -- ---- a call
 
+-- a frame that came, with the mark "more to come"; an ASDU to send; stop, test and tick
 pub data Event : Type 0 where
   frame : List ℕ → Bool → Event
   send : List ℕ → Event

@@ -11,6 +11,7 @@ pub data Frame : Type 0 where
   sFrame : ℕ → Frame
   uFrame : UFrame → Frame
 
+-- the octets of one, and of all
 unfoldable pub octetsOf : Frame → List ℕ
 octetsOf (iFrame s r asdu) = iOctets s r asdu
 octetsOf (sFrame r) = sOctets r
@@ -22,16 +23,16 @@ wire (f ∷ fs) = octetsOf f ++ wire fs
 
 -- the first control octets of the U frames that a running link knows: stop act, stop con, test act, test con
 abbrev pub stopAct : ℕ
-stopAct = 19
+stopAct = 0x13
 
 abbrev pub stopCon : ℕ
-stopCon = 35
+stopCon = 0x23
 
 abbrev pub testAct : ℕ
-testAct = 67
+testAct = 0x43
 
 abbrev pub testCon : ℕ
-testCon = 131
+testCon = 0x83
 
 -- such a frame
 abbrev pub uWith : ℕ → Frame

@@ -1,3 +1,4 @@
+-- The definitions of this crate, bottom up.
 pub mod Frames
 pub mod Making
 pub mod Events

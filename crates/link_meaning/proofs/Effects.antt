@@ -27,7 +27,7 @@ use Rattle.link.specs.Frames.{Frame, iFrame, sFrame, uFrame, stopAct, stopCon, 
 use Rattle.link.specs.Events.{Event, frame, send, stop, test, tick, isDue}
 use Rattle.link_meaning.specs.Abstract.{Abstract, Progress, Result, onWire, isOpen, fits, freedBy, free, count, sendOne, queue, timing, settle, setClock, ended, begin, change, add, sendOut, flush, letting, confirmAll, testOut, mustConfirm, finish, accept, refuse, close, outstanding, t1uFrom, t2From, t3From, testFrom, testAnswered, stopLink, stepS, stepI, stepU, stepFrame, stepPlain, stepSend, stepStop, manyOpen, stepTest, tickNumber, tickT2, tickT3, stepTick, step}
 use Rattle.link_meaning.specs.Runs.{Within}
-use Rattle.link_meaning.specs.Effects.{asdusOf, Numbered, freesBy, countsBy, frees, counts, takes, Effect, HasEffect, SomeFits, AcceptsExactly}
+use Rattle.link_meaning.specs.Effects.{asdusOf, Numbered, tellsR, freesBy, countsBy, frees, counts, takes, Effect, HasEffect, SomeFits, AcceptsExactly}
 
 -- ---- frames in a row
 
@@ -46,6 +46,27 @@ numbered-append s r (iFrame a b x ∷ fs) gs h k =
 numbered-append s r (sFrame b ∷ fs) gs h k = (h .0, numbered-append s r fs gs (h .1) k)
 numbered-append s r (uFrame u ∷ fs) gs h k = numbered-append s r fs gs h k
 
+tells-i : (fs : List Frame) (s r : ℕ) (x : List ℕ) → tellsR (fs ++ (iFrame s r x ∷ [])) ≡ true
+unfolding tellsR
+tells-i [] s r x = refl
+tells-i (iFrame a b y ∷ fs) s r x = refl
+tells-i (sFrame b ∷ fs) s r x = refl
+tells-i (uFrame u ∷ fs) s r x = tells-i fs s r x
+
+tells-s : (fs : List Frame) (r : ℕ) → tellsR (fs ++ (sFrame r ∷ [])) ≡ true
+unfolding tellsR
+tells-s [] r = refl
+tells-s (iFrame a b y ∷ fs) r = refl
+tells-s (sFrame b ∷ fs) r = refl
+tells-s (uFrame u ∷ fs) r = tells-s fs r
+
+tells-u : (fs : List Frame) (v : UFrame) → tellsR (fs ++ (uFrame v ∷ [])) ≡ tellsR fs
+unfolding tellsR
+tells-u [] v = refl
+tells-u (iFrame a b y ∷ fs) v = refl
+tells-u (sFrame b ∷ fs) v = refl
+tells-u (uFrame u ∷ fs) v = tells-u fs v
+
 -- ---- a call in the making
 
 -- so far d are freed, c counted, and ws is what is handed out and then what waits
@@ -56,21 +77,26 @@ record Grows (a : Abstract) (now d c : ℕ) (ws : List (List ℕ)) (p : Progress
   times : p .link .times ≡ drop d (a .times) ++ replicate (length (asdusOf (p .frames))) now
   order : asdusOf (p .frames) ++ p .link .waiting ≡ ws
   numbers : Numbered (a .sent) (a .received + c) (p .frames)
+  unconfirmed : p .link .unconfirmed ≡ pick (tellsR (p .frames)) 0 (a .unconfirmed + c)
   settings : p .link .settings ≡ a .settings
 
 module _ (a : Abstract) (now d c : ℕ) where
-  -- a frame that carries no ASDU
-  grows-add : (ws : List (List ℕ)) (f : Frame) (p : Progress) → asdusOf (f ∷ []) ≡ [] → ((s : ℕ) → Numbered s (a .received + c) (f ∷ [])) → Grows a now d c ws p → Grows a now d c ws (add f p)
-  grows-add ws f p none numbered g =
+  -- a frame that carries no ASDU, and a link that changes in none but the count
+  grows-add : (ws : List (List ℕ)) (f : Frame) (p : Progress) (b : Abstract) → asdusOf (f ∷ []) ≡ [] → ((s : ℕ) → Numbered s (a .received + c) (f ∷ []))
+      → b .sent ≡ p .link .sent → b .received ≡ p .link .received → b .confirmed ≡ p .link .confirmed → b .times ≡ p .link .times → b .waiting ≡ p .link .waiting
+      → b .settings ≡ p .link .settings → b .unconfirmed ≡ pick (tellsR (p .frames ++ (f ∷ []))) 0 (a .unconfirmed + c) → Grows a now d c ws p
+      → Grows a now d c ws (record { link = b; frames = p .frames ++ (f ∷ []) })
+  grows-add ws f p b none numbered s r k t w e u g =
       let same : asdusOf (p .frames ++ (f ∷ [])) ≡ asdusOf (p .frames) = asdus-append (p .frames) (f ∷ []) ∙ (ap (λ (l : List (List ℕ)). asdusOf (p .frames) ++ l) none ∙ append-nil _) in
       record {
-        sent = rw same (g .sent);
-        received = g .received;
-        confirmed = g .confirmed;
-        times = rw same (g .times);
-        order = rw same (g .order);
+        sent = rw same (s ∙ g .sent);
+        received = r ∙ g .received;
+        confirmed = k ∙ g .confirmed;
+        times = rw same (t ∙ g .times);
+        order = rw same (ap (λ (l : List (List ℕ)). asdusOf (p .frames) ++ l) w ∙ g .order);
         numbers = numbered-append (a .sent) (a .received + c) (p .frames) (f ∷ []) (g .numbers) (numbered _);
-        settings = g .settings;
+        unconfirmed = u;
+        settings = e ∙ g .settings;
       }
 
   -- an I frame
@@ -90,6 +116,7 @@ module _ (a : Abstract) (now d c : ℕ) where
         order = rw same (append-assoc (asdusOf (p .frames)) (x ∷ []) rest ∙ e);
         numbers = numbered-append (a .sent) (a .received + c) (p .frames) (f ∷ []) (g .numbers)
             (unfold Numbered in (ap onWire (g .sent), ap onWire (g .received), tt));
+        unconfirmed = sym (ap (λ (b : Bool). pick b 0 (a .unconfirmed + c)) (tells-i (p .frames) _ _ x));
         settings = g .settings;
       }
 
@@ -102,8 +129,9 @@ module _ (a : Abstract) (now d c : ℕ) where
 
   -- the link changes in none of these
   grows-change : (ws : List (List ℕ)) (p : Progress) (b : Abstract) → b .sent ≡ p .link .sent → b .received ≡ p .link .received → b .confirmed ≡ p .link .confirmed
-      → b .times ≡ p .link .times → b .waiting ≡ p .link .waiting → b .settings ≡ p .link .settings → Grows a now d c ws p → Grows a now d c ws (record { link = b; frames = p .frames })
-  grows-change ws p b s r f t w e g =
+      → b .times ≡ p .link .times → b .waiting ≡ p .link .waiting → b .settings ≡ p .link .settings → b .unconfirmed ≡ p .link .unconfirmed → Grows a now d c ws p
+      → Grows a now d c ws (record { link = b; frames = p .frames })
+  grows-change ws p b s r f t w e u g =
       record {
         sent = s ∙ g .sent;
         received = r ∙ g .received;
@@ -111,29 +139,32 @@ module _ (a : Abstract) (now d c : ℕ) where
         times = t ∙ g .times;
         order = ap (λ (l : List (List ℕ)). asdusOf (p .frames) ++ l) w ∙ g .order;
         numbers = g .numbers;
+        unconfirmed = u ∙ g .unconfirmed;
         settings = e ∙ g .settings;
       }
 
   grows-timing : (ws : List (List ℕ)) (f : Settings → Timers → Timers) (p : Progress) → Grows a now d c ws p → Grows a now d c ws (change (timing f) p)
   unfolding timing
-  grows-timing ws f p g = grows-change ws p _ refl refl refl refl refl refl g
+  grows-timing ws f p g = grows-change ws p _ refl refl refl refl refl refl refl g
 
   grows-ended : (ws : List (List ℕ)) (n : ℕ) (p : Progress) → Grows a now d c ws p → Grows a now d c ws (change (ended n) p)
   unfolding ended
-  grows-ended ws n p g = grows-change ws p _ refl refl refl refl refl refl g
+  grows-ended ws n p g = grows-change ws p _ refl refl refl refl refl refl refl g
 
   grows-clock : (ws : List (List ℕ)) (p : Progress) → Grows a now d c ws p → Grows a now d c ws (change (setClock now) p)
-  grows-clock ws p g = grows-change ws p _ refl refl refl refl refl refl g
+  grows-clock ws p g = grows-change ws p _ refl refl refl refl refl refl refl g
 
   grows-u : (ws : List (List ℕ)) (u : UFrame) (p : Progress) → Grows a now d c ws p → Grows a now d c ws (add (uFrame u) p)
   unfolding asdusOf Numbered
-  grows-u ws u p g = grows-add ws (uFrame u) p refl (λ s. tt) g
+  grows-u ws u p g =
+      grows-add ws (uFrame u) p (p .link) refl (λ s. tt) refl refl refl refl refl refl
+      (g .unconfirmed ∙ sym (ap (λ (b : Bool). pick b 0 (a .unconfirmed + c)) (tells-u (p .frames) u))) g
 
   grows-confirm : (ws : List (List ℕ)) (p : Progress) → Grows a now d c ws p → Grows a now d c ws (confirmAll p)
   unfolding confirmAll settle asdusOf Numbered
   grows-confirm ws p g =
-      grows-change ws (add (sFrame (onWire (p .link .received))) p) _ refl refl refl refl refl refl
-      (grows-add ws (sFrame (onWire (p .link .received))) p refl (λ s. (ap onWire (g .received), tt)) g)
+      grows-add ws (sFrame (onWire (p .link .received))) p (settle (p .link)) refl (λ s. (ap onWire (g .received), tt)) refl refl refl refl refl refl
+      (sym (ap (λ (b : Bool). pick b 0 (a .unconfirmed + c)) (tells-s (p .frames) _))) g
 
   grows-finish : (ws : List (List ℕ)) (more : Bool) (p : Progress) → Grows a now d c ws p → Grows a now d c ws (finish more now p)
   unfolding finish
@@ -143,7 +174,7 @@ module _ (a : Abstract) (now d c : ℕ) where
 
 module _ (a : Abstract) (now : ℕ) where
   begins : Grows a now 0 0 (a .waiting) (begin a)
-  unfolding asdusOf Numbered
+  unfolding asdusOf Numbered tellsR
   begins =
       record {
         sent = sym (add-zero _);
@@ -152,6 +183,7 @@ module _ (a : Abstract) (now : ℕ) where
         times = sym (append-nil (a .times));
         order = refl;
         numbers = tt;
+        unconfirmed = sym (add-zero _);
         settings = refl;
       }
 
@@ -161,7 +193,7 @@ module _ (a : Abstract) (now : ℕ) where
     where
       freed-first : Grows a now d 0 (a .waiting) (begin (free d a))
       freed-first =
-          unfold asdusOf Numbered in
+          unfold asdusOf Numbered tellsR in
           (record {
             sent = sym (add-zero _);
             received = sym (add-zero _);
@@ -169,6 +201,7 @@ module _ (a : Abstract) (now : ℕ) where
             times = sym (append-nil (drop d (a .times)));
             order = refl;
             numbers = tt;
+            unconfirmed = sym (add-zero _);
             settings = refl;
           })
 
@@ -178,7 +211,7 @@ module _ (a : Abstract) (now : ℕ) where
     where
       freed-first : Grows a now d 1 (a .waiting) (begin (free d (count a)))
       freed-first =
-          unfold asdusOf Numbered in
+          unfold asdusOf Numbered tellsR in
           (record {
             sent = sym (add-zero _);
             received = refl;
@@ -186,6 +219,7 @@ module _ (a : Abstract) (now : ℕ) where
             times = sym (append-nil (drop d (a .times)));
             order = refl;
             numbers = tt;
+            unconfirmed = refl;
             settings = refl;
           })
 
@@ -201,13 +235,14 @@ module _ (a : Abstract) (now : ℕ) where
           times = rw ed (g .times);
           order = et ∙ sym (g .order);
           numbers = subst (λ (n : ℕ). Numbered (a .sent) n (p .frames)) (sym (g .received)) (g .numbers);
+          unconfirmed = rw ec (g .unconfirmed);
           settings = g .settings;
         }
 
-    has-refused : (n : ℕ) (b : Abstract) → b .sent ≡ a .sent → b .received ≡ a .received → b .confirmed ≡ a .confirmed → b .times ≡ a .times → b .waiting ≡ a .waiting → b .settings ≡ a .settings
+    has-refused : (n : ℕ) (b : Abstract) → b .sent ≡ a .sent → b .received ≡ a .received → b .confirmed ≡ a .confirmed → b .times ≡ a .times → b .waiting ≡ a .waiting → b .settings ≡ a .settings → b .unconfirmed ≡ a .unconfirmed
         → frees e n (a .confirmed) ≡ 0 → counts e n ≡ 0 → takes e n ≡ [] → Effect e now a (record { refused = n; link = b; frames = []; came = false })
-    unfolding asdusOf Numbered
-    has-refused n b s r f t w k ed ec et =
+    unfolding asdusOf Numbered tellsR
+    has-refused n b s r f t w k u ed ec et =
         record {
           sent = s ∙ sym (add-zero _);
           received = rw ec (r ∙ sym (add-zero _));
@@ -215,16 +250,17 @@ module _ (a : Abstract) (now : ℕ) where
           times = rw ed (t ∙ sym (append-nil (a .times)));
           order = rw et (append-nil (a .waiting) ∙ sym w);
           numbers = tt;
+          unconfirmed = rw ec (u ∙ sym (add-zero _));
           settings = k;
         }
 
     has-refuse : (n : ℕ) → frees e n (a .confirmed) ≡ 0 → counts e n ≡ 0 → takes e n ≡ [] → Effect e now a (refuse n a)
     unfolding refuse
-    has-refuse n ed ec et = has-refused n a refl refl refl refl refl refl ed ec et
+    has-refuse n ed ec et = has-refused n a refl refl refl refl refl refl refl ed ec et
 
     has-close : (n : ℕ) → frees e n (a .confirmed) ≡ 0 → counts e n ≡ 0 → takes e n ≡ [] → Effect e now a (close n a)
     unfolding close ended
-    has-close n ed ec et = has-refused n _ refl refl refl refl refl refl ed ec et
+    has-close n ed ec et = has-refused n _ refl refl refl refl refl refl refl ed ec et
 
 -- ---- the events
 
@@ -301,7 +337,7 @@ module _ (now : ℕ) (a : Abstract) (w : Within a) where
           waits : Grows a now 0 0 (a .waiting ++ (asdu ∷ [])) (begin (queue asdu a))
           waits = let g = begins a now in
               unfold queue asdusOf in
-              (record { sent = g .sent; received = g .received; confirmed = g .confirmed; times = g .times; order = refl; numbers = g .numbers; settings = refl })
+              (record { sent = g .sent; received = g .received; confirmed = g .confirmed; times = g .times; order = refl; numbers = g .numbers; unconfirmed = g .unconfirmed; settings = refl })
 
   on-send : (asdu : List ℕ) (q : PlainAnswer) → plainAnswer asdu ≡ q → Has (send asdu) (stepSend q asdu now a)
   unfolding stepSend

@@ -1,6 +1,6 @@
 -- What a call does to totals and lists, whatever the event: counted from the call, its number and the frames that it handed out.
 use Prim.Native.Nat.{ℕ, _+_, _<_}
-use mathlib.Core.Bool.{Bool}
+use mathlib.Core.Bool.{Bool, true, false}
 use mathlib.Core.Path.{_≡_}
 use mathlib.Core.List.{List, [], _∷_, _++_}
 use mathlib.Core.Logic.{_↔_}
@@ -29,6 +29,13 @@ Numbered s r [] = Unit {0}
 Numbered s r (iFrame a b x ∷ fs) = (a ≡ onWire s) × (b ≡ onWire r) × Numbered (s + 1) r fs
 Numbered s r (sFrame b ∷ fs) = (b ≡ onWire r) × Numbered s r fs
 Numbered s r (uFrame u ∷ fs) = Numbered s r fs
+
+-- whether one of them carries R: an I or an S frame
+unfoldable pub tellsR : List Frame → Bool
+tellsR [] = false
+tellsR (iFrame s r x ∷ fs) = true
+tellsR (sFrame r ∷ fs) = true
+tellsR (uFrame u ∷ fs) = tellsR fs
 
 -- how many frames a receive number frees where A are confirmed
 abbrev pub freesBy : FrameAnswer → ℕ → ℕ
@@ -69,7 +76,8 @@ takes test refused = []
 takes tick refused = []
 
 -- S goes up by the I frames handed out, R by those accepted, A by those freed; the freed times leave, and each new one is now; what
--- waited, and then what was taken, is handed out in order or still waits; the frames have the numbers that they should
+-- waited, and then what was taken, is handed out in order or still waits; the frames have the numbers that they should; the count
+-- is that of the I frames accepted since a frame last told R
 pub record Effect (e : Event) (now : ℕ) (a : Abstract) (r : Result) : Type 0 where
   pub sent : r .link .sent ≡ a .sent + length (asdusOf (r .frames))
   pub received : r .link .received ≡ a .received + counts e (r .refused)
@@ -77,6 +85,7 @@ pub record Effect (e : Event) (now : ℕ) (a : Abstract) (r : Result) : Type 0 w
   pub times : r .link .times ≡ drop (frees e (r .refused) (a .confirmed)) (a .times) ++ replicate (length (asdusOf (r .frames))) now
   pub order : a .waiting ++ takes e (r .refused) ≡ asdusOf (r .frames) ++ r .link .waiting
   pub numbers : Numbered (a .sent) (r .link .received) (r .frames)
+  pub unconfirmed : r .link .unconfirmed ≡ pick (tellsR (r .frames)) 0 (a .unconfirmed + counts e (r .refused))
   pub settings : r .link .settings ≡ a .settings
 
 abbrev pub HasEffect : Type 0

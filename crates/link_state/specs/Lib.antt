@@ -1,3 +1,4 @@
+-- The definitions of this crate, bottom up.
 pub mod Limits
 pub mod Acknowledging
 pub mod Opening

@@ -40,9 +40,11 @@ freshLink settings t3 clock =
 unfoldable pub blankLink : Link
 blankLink = freshLink (record { k = 0; w = 0; p = 0; t1 = 0; t2 = 0; t3 = 0 }) unset 0
 
+-- 19, then 22
 unfoldable pub openRefusal : Settings → ℕ → ℕ
 openRefusal s now = pick (soundSettings s) (pick (ltb 281474976710655 now) clockTooLate 0) outsideLimits
 
+-- beside a refusal the link is blank
 unfoldable pub refusedOpening : ℕ → OpenedLink
 refusedOpening r = record { link = blankLink; answer = OpenAnswer.Refused (refusal r) }
 

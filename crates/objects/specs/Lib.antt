@@ -1,3 +1,4 @@
+-- The definitions of this crate, bottom up.
 pub mod Kinds
 pub mod Elements
 pub mod Objects

@@ -25,6 +25,7 @@ blank = record { address = 0; value = Value.MSpNa1 (record { iv = false; nt = fa
 unfoldable pub objectOf : Kind → List ℕ → Object
 objectOf k s = record { address = leOf 3 s; value = elementOf k (drop 3 s) }
 
+-- its octets: the address, then the element
 unfoldable pub objectOctets : Object → List ℕ
 objectOctets o = leOctets 3 (o .address) ++ elementOctets (o .value)
 

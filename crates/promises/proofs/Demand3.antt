@@ -35,15 +35,16 @@ use Rattle.link.specs.declared.answers.LinkAnswer.{LinkAnswer}
 use Rattle.link.specs.declared.answers.LinkAnswer.the-variants as LinkAnswer
 use Rattle.link.proofs.Wires.{wire-append}
 use Rattle.link_meaning.specs.Abstract.{Abstract, Result, fresh, step}
-use Rattle.link_meaning.specs.Effects.{asdusOf}
 use Rattle.link_meaning.specs.Meaning.{OctetsIn, waitingOf, timesOf, SameOutcome}
+use Rattle.link_meaning.specs.Effects.{asdusOf, tellsR, countsBy, counts}
 use Rattle.link_meaning.specs.Runs.{Agrees}
 use Rattle.link_meaning.specs.Runs as totals
+use Rattle.link_meaning.proofs.Effects.{has-effect}
 use Rattle.link_meaning.proofs.Meaning.{steps-alike, opens-fresh}
 use Rattle.link_meaning.proofs.Runs.{runs-agree}
-use Rattle.promises.specs.Demand3.{Call, outcomeOf, answered, poolAfter, Entry, entryOf, Run, opening, after, cut, iFramesIn, iFrames, allHanded, S, sendTimes, asdusIn, haveLeft, Brought, framed, brings, confirmedBy, R, A, takenBy, taken, Numbered, Claim, Begun, Demand3}
+use Rattle.promises.specs.Demand3.{Call, outcomeOf, answered, poolAfter, Entry, entryOf, Run, opening, after, cut, iFramesIn, iFrames, allHanded, S, sendTimes, asdusIn, haveLeft, Brought, framed, brings, receivedBy, confirmedBy, R, A, takenBy, taken, toldIn, untold, Numbered, Claim, Begun, Demand3}
 use Rattle.promises.proofs.Demand3Pool.{pool-is}
-use Rattle.promises.proofs.Demand3Wire.{AllFit, allOf, each, stream-wire, all-fit, asdus-out, numbers-out, fit-append, each-append, kept-append}
+use Rattle.promises.proofs.Demand3Wire.{AllFit, allOf, each, stream-wire, all-fit, asdus-out, numbers-out, fit-append, each-append, kept-append, told-out}
 use Rattle.promises.proofs.Demand3Steps.{AllPlain, Exact, Stepped, numberOf, stepped, exactly}
 
 -- ---- what a frame brings
@@ -101,6 +102,7 @@ pub record Counted (s : Settings) (past : List Entry) (a : Abstract) : Type 0 wh
   pub times : a .times ≡ drop (A past) (sendTimes past)
   pub timed : length (sendTimes past) ≡ S past
   pub order : taken past ≡ haveLeft past ++ a .waiting
+  pub unconfirmed : a .unconfirmed ≡ untold past
   pub plain : AllPlain (a .waiting)
   pub frames : List Frame
   pub fit : AllFit frames
@@ -118,6 +120,7 @@ counted-none s start =
       times = refl;
       timed = refl;
       order = refl;
+      unconfirmed = refl;
       plain = tt;
       frames = [];
       fit = tt;
@@ -136,6 +139,28 @@ asdus-long (f ∷ fs) = ap suc (asdus-long fs)
 plain-rest : (xs ys : List (List ℕ)) → AllPlain (xs ++ ys) → AllPlain ys
 plain-rest [] ys h = h
 plain-rest (x ∷ xs) ys h = plain-rest xs ys (h .1)
+
+-- an I frame that is accepted counts
+counted-by : (q : FrameAnswer) (b : Bool) (x : ℕ) → x + pick b (countsBy q) 0 ≡ pick b (receivedBy (framed q) x) x
+counted-by (FrameAnswer.I s r) true x = refl
+counted-by (FrameAnswer.S r) true x = add-zero x
+counted-by (FrameAnswer.U u) true x = add-zero x
+counted-by (FrameAnswer.Refused r) true x = add-zero x
+counted-by (FrameAnswer.I s r) false x = add-zero x
+counted-by (FrameAnswer.S r) false x = add-zero x
+counted-by (FrameAnswer.U u) false x = add-zero x
+counted-by (FrameAnswer.Refused r) false x = add-zero x
+
+no-frame : (b : Bool) (x : ℕ) → x + 0 ≡ pick b x x
+no-frame true x = add-zero x
+no-frame false x = add-zero x
+
+counts-are : (e : Event) (n x : ℕ) → x + counts e n ≡ pick (eqb n 0) (receivedBy (brings e) x) x
+counts-are (frame f more) n x = counted-by (frameAnswer f) (eqb n 0) x
+counts-are (send asdu) n x = no-frame (eqb n 0) x
+counts-are stop n x = no-frame (eqb n 0) x
+counts-are test n x = no-frame (eqb n 0) x
+counts-are tick n x = no-frame (eqb n 0) x
 
 -- one entry more
 module _ (s : Settings) (e : Entry) (past : List Entry) (a : Abstract) (r : Result) (c : Counted s past a) (st : Stepped (brings (e .event)) (e .now) a r)
@@ -218,9 +243,18 @@ module _ (s : Settings) (e : Entry) (past : List Entry) (a : Abstract) (r : Resu
       ∙ ap (λ (l : List (List ℕ)). l ++ r .link .waiting)
       (ap (λ (l : List (List ℕ)). haveLeft past ++ l) (sym left-is) ∙ sym (asdus-append (iFrames past) (iFramesIn (cut (e .handed))))))))
 
-  counted : Counted s (e ∷ past) (r .link)
+  untold-is : r .link .unconfirmed ≡ pick (tellsR (r .frames)) 0 (a .unconfirmed + counts (e .event) (r .refused)) → r .link .unconfirmed ≡ untold (e ∷ past)
+  untold-is effect =
+      let n = a .unconfirmed + counts (e .event) (r .refused) in
+      let told : toldIn (cut (e .handed)) ≡ tellsR (r .frames) = ap toldIn cut-is ∙ told-out (r .frames) fit in
+      let count : n ≡ pick (eqb (e .number) 0) (receivedBy (brings (e .event)) (untold past)) (untold past) =
+      ap (λ (k : ℕ). a .unconfirmed + counts (e .event) k) (sym number)
+      ∙ (ap (λ (x : ℕ). x + counts (e .event) (e .number)) (c .unconfirmed) ∙ counts-are (e .event) (e .number) (untold past)) in
+      effect ∙ (ap (λ (b : Bool). pick b 0 n) (sym told) ∙ ap (λ (k : ℕ). pick (toldIn (cut (e .handed))) 0 k) count)
+
+  counted : r .link .unconfirmed ≡ pick (tellsR (r .frames)) 0 (a .unconfirmed + counts (e .event) (r .refused)) → Counted s (e ∷ past) (r .link)
   unfolding out
-  counted =
+  counted effect =
       record {
         settings = st .went .settings ∙ (st .settings ∙ c .settings);
         sent = sent-is;
@@ -229,6 +263,7 @@ module _ (s : Settings) (e : Entry) (past : List Entry) (a : Abstract) (r : Resu
         times = times-are;
         timed = timed;
         order = order;
+        unconfirmed = untold-is effect;
         plain = plain-rest out (r .link .waiting) (subst AllPlain (st .went .waiting) (st .plain));
         frames = c .frames ++ r .frames;
         fit = fit-append (c .frames) (r .frames) (c .fit) fit;
@@ -338,7 +373,8 @@ module _ (s : Settings) (start : ℕ) (pool : List ℕ) (past : List Entry) (l :
         run =
             subst (λ (q : List ℕ). totals.Run s start pool (answered c l between .link) q (result .link)) (pool-is (c .event) l between (length (c .output)) (c .now))
             (totals.after (k .run) (record { event = c .event; output = length (c .output); now = c .now }) o free);
-        counted = counted s (entryOf c l between) past (k .link) result (k .counted) done entry-number entry-bytes;
+        counted = counted s (entryOf c l between) past (k .link) result (k .counted) done entry-number entry-bytes
+            (has-effect (c .event) (c .now) (k .link) (agrees .within) .unconfirmed);
       }
 
   pub next-link : next .link ≡ result .link
@@ -388,6 +424,7 @@ module _ (s : Settings) (start : ℕ) (pool : List ℕ) (past : List Entry) (l :
         timed = d .timed;
         in-order = in-order s (e ∷ past) l′ pool′ a still d;
         only-full = only-full s (e ∷ past) l′ pool′ a still d;
+        unconfirmed = still .means .unconfirmed ∙ d .unconfirmed;
       }
 
 -- ---- every run

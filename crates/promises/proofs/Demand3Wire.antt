@@ -23,9 +23,9 @@ use Rattle.assembly.specs.declared.start.StartAnswer.{StartAnswer}
 use Rattle.assembly.specs.declared.start.StartAnswer.the-variants.{Whole}
 use Rattle.assembly.proofs.Sights.{enough-whole, longer-whole}
 use Rattle.link.specs.Frames.{Frame, iFrame, sFrame, uFrame, octetsOf, wire}
-use Rattle.link_meaning.specs.Effects.{asdusOf}
+use Rattle.link_meaning.specs.Effects.{asdusOf, tellsR}
 use Rattle.asdu.proofs.Passed.{plain-reads, plain-sized}
-use Rattle.promises.specs.Demand3.{keepI, iFramesIn, asdusIn, Numbered}
+use Rattle.promises.specs.Demand3.{keepI, iFramesIn, asdusIn, Numbered, toldIn}
 use Rattle.promises.proofs.FrameBack.{i-reads, part-is, s-reads, frame-reads-back}
 
 -- ---- one frame
@@ -150,6 +150,14 @@ numbers-out s r (iFrame n m x ∷ fs) h =
     rw (reads (iFrame n m x) (all-fit s r (iFrame n m x ∷ fs) h .0)) ((h .0, h .1), numbers-out (s + 1) r fs (h .3))
 numbers-out s r (sFrame m ∷ fs) h = rw (reads (sFrame m) (all-fit s r (sFrame m ∷ fs) h .0)) (h .0, numbers-out s r fs (h .1))
 numbers-out s r (uFrame u ∷ fs) h = rw (reads (uFrame u) tt) (tt, numbers-out s r fs h)
+
+-- which frames tell R
+pub told-out : (fs : List Frame) → AllFit fs → toldIn (each fs) ≡ tellsR fs
+unfolding tellsR
+told-out [] h = refl
+told-out (iFrame n m x ∷ fs) h = rw (reads (iFrame n m x) (h .0))
+told-out (sFrame m ∷ fs) h = rw (reads (sFrame m) (h .0))
+told-out (uFrame u ∷ fs) h = rw (reads (uFrame u) (h .0)) (told-out fs (h .1))
 
 -- ---- frames after others
 

@@ -3,7 +3,7 @@
 -- out, the nows and the numbers answered. Nothing is taken from the record or the pool to count.
 use Prim.Native.Nat.{ℕ, _+_, _%_, _<_, _≤_}
 use mathlib.Core.Path.{_≡_}
-use mathlib.Core.Bool.{Bool}
+use mathlib.Core.Bool.{Bool, true, false, _||_}
 use mathlib.Core.List.{List, [], _∷_, _++_}
 use mathlib.Core.Logic.{_↔_}
 use lib.ListN.{length, take, getD, replicate}
@@ -185,6 +185,24 @@ abbrev pub taken : List Entry → List (List ℕ)
 taken [] = []
 taken (e ∷ past) = taken past ++ pick (accepted e) (takenBy (brings (e .event))) []
 
+-- ---- what was not confirmed yet
+
+-- a frame tells R where it reads as an I or an S frame
+abbrev pub tellsBy : FrameAnswer → Bool
+tellsBy (FrameAnswer.I s r) = true
+tellsBy (FrameAnswer.S r) = true
+tellsBy (FrameAnswer.U u) = false
+tellsBy (FrameAnswer.Refused r) = false
+
+abbrev pub toldIn : List (List ℕ) → Bool
+toldIn [] = false
+toldIn (f ∷ fs) = tellsBy (frameAnswer f) || toldIn fs
+
+-- the I frames accepted since R was last told
+abbrev pub untold : List Entry → ℕ
+untold [] = 0
+untold (e ∷ past) = pick (toldIn (cut (e .handed))) 0 (pick (accepted e) (receivedBy (brings (e .event)) (untold past)) (untold past))
+
 -- ---- the claim
 
 -- "some whole a from A to S has its receive number as remainder by 32,768"
@@ -239,6 +257,8 @@ pub record Claim (s : Settings) (e : Entry) (past : List Entry) (l : Link) (pool
   pub in-order : taken (e ∷ past) ≡ haveLeft (e ∷ past) ++ waitingOf (l .state .queue) pool
   -- "which they do only with k outstanding"
   pub only-full : 0 < length (waitingOf (l .state .queue) pool) → l .state .window .held ≡ s .k
+  -- document 01's unconfirmed count: it falls only by an I or an S frame that went out. `confirmed` of `LinkCall` bounds it by w
+  pub unconfirmed : l .state .receive .unconfirmed ≡ untold (e ∷ past)
 
 -- after opening: nothing is outstanding and nothing waits
 pub record Begun (l : Link) (pool : List ℕ) : Type 0 where

@@ -1,3 +1,4 @@
+-- The promises to the customer, and the cases and counts that they speak of.
 pub mod Asdus
 pub mod Frames
 pub mod Cases

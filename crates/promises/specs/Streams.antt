@@ -48,7 +48,7 @@ CutIndependent = (carry : List ℕ) (chunks : List (List ℕ)) → 255 ≤ lengt
 
 -- a whole frame by its L
 pub record IsFrame (f : List ℕ) : Type 0 where
-  pub start : getD f 0 0 ≡ 104
+  pub start : getD f 0 0 ≡ 0x68
   pub least : 4 ≤ getD f 1 0
   pub most : getD f 1 0 ≤ 253
   pub long : length f ≡ 2 + getD f 1 0
