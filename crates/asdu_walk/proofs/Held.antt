@@ -20,11 +20,15 @@ use denote.Builtin.{u8}
 use denote.Ref.{RefT, NamedLft}
 use denote.Signature.{namedLft}
 use denote.Slice.{sliceVal, ShrSlice}
+use denote.Enum.Laws as EL
 use denote.Struct.Declared.{Declared}
 use denote.Struct.Laws as LL
 use denote.Struct.Values.{Values}
+use Rattle.asdu_walk.specs.declared.Found.{Found}
 use Rattle.asdu_walk.specs.declared.Place.{Place}
 use Rattle.asdu_walk.specs.declared.Walk.{Walk}
+use Rattle.asdu_walk.proofs.Found as S
+use Rattle.asdu_walk.proofs.Found.Laws as S′
 use Rattle.asdu_walk.proofs.Place as P
 use Rattle.asdu_walk.proofs.Place.Laws as P′
 use Rattle.asdu_walk.proofs.Walk as T
@@ -80,6 +84,9 @@ place-is p u is = subst (IsPlace p) (place-told p u is) is
 module _ {M : Type 1} (𝓤 : URA M) (H : Heap 𝓤) (A : Atoms 𝓤) (W : Given 𝓤 H A) where
   pub place-typed : (p : Place) (u : Val) → IsPlace p u → Holds (hasTy P′.mir u) × WT u
   place-typed p u is = LL.lawful P.the-type P′.the-laws 𝓤 H A W .typed p (u ∷ []) is .0
+
+  pub found-typed : (r : Found) (u : Val) → Is S.the-row r (u ∷ []) → Holds (hasTy S′.mir u) × WT u
+  found-typed r u is = EL.lawful S.the-type S′.the-laws 𝓤 H A W tt .typed r (u ∷ []) is .0
 
   module _ (κ : Lft) (s : RefT (List ℕ)) (is : Is (ShrSlice (named 0) κ u8) s (slice-val s ∷ [])) (p : Place) (u : Val) (place : IsPlace p u) where
     -- a walk made of a slice and a place, as a result and as a local

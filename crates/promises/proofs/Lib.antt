@@ -4,6 +4,7 @@ pub mod ReadBack
 pub mod WriteAgain
 pub mod Tells
 pub mod Answered
+pub mod Walked
 pub mod FrameBack
 pub mod FrameAgain
 pub mod FrameTells

@@ -1,4 +1,5 @@
 pub mod Asdus
+pub mod Walks
 pub mod Frames
 pub mod Cases
 pub mod Streams

@@ -25,7 +25,6 @@ use denote.Builtin.{u8}
 use denote.Signature.{namedLft}
 use denote.Slice.{ShrSlice}
 use denote.Steps.{peeks, heard, nothing}
-use denote.Enum.Laws as EL
 use denote.Struct.Laws as LL
 use denote.Struct.Rest.{all-own, own-open}
 use denote.Triple.Statement.{Contract, Triple}
@@ -39,11 +38,10 @@ use denote.Triple.Clauses.{ensured, lasts}
 use Rattle.asdu_walk.specs.Walks.{nextOf}
 use Rattle.asdu_walk.specs.declared.Walk.{Walk}
 use Rattle.asdu_walk.specs.declared.Found.{Found}
-use Rattle.asdu_walk.proofs.Held.{B, D, L, fields, slice-val, place-val, walk-val, IsPlace, place-field, place-typed}
+use Rattle.asdu_walk.proofs.Held.{B, D, L, fields, slice-val, place-val, walk-val, IsPlace, place-field, place-typed, found-typed}
 use Rattle.asdu_walk.proofs.Place as P
 use Rattle.asdu_walk.proofs.Walk.Laws as T′
 use Rattle.asdu_walk.proofs.Found as S
-use Rattle.asdu_walk.proofs.Found.Laws as S′
 use Rattle.asdu_walk.proofs.object_at as step
 use Rattle.asdu_walk.proofs.object_at.Symbol as step-def
 use Rattle.asdu_walk.proofs.object_at.Symbol.{name as #asdu-walk·object-at}
@@ -110,7 +108,7 @@ module _ {M : Type 1} (𝓤 : URA M) (H : Heap 𝓤) (A : Atoms 𝓤) (W : Given
         split ! $ move ! (1 ∷ []) $ use1 W (raw (fact 𝓤 (r ≡ nextOf d))) (said r) $ heard ! (r ≡ nextOf d) (λ e. split ! $ move ! (1 ∷ []) $
         -- [the result; the token; what the struct owns; _3; …; _2; …; _1; …; room for _0; …]
         peeks ! S.the-row (Is S.the-row) (shows 𝓤 H A S.the-row) r (u ∷ []) (λ is.
-        land ! (from ! (stop !)) (init ! 9 refl (EL.lawful S.the-type S′.the-laws 𝓤 H A W tt .typed r _ is .0)) $
+        land ! (from ! (stop !)) (init ! 9 refl (found-typed 𝓤 H A W r u is)) $
         returns ! (look ! 9 refl) $ forget ! 3 refl $ forget ! 5 refl $ forget ! 7 refl $ forget ! 9 refl $
         move ! (9 ∷ 10 ∷ []) $ free1 ! $ move ! (7 ∷ 8 ∷ []) $ free1 ! $ move ! (5 ∷ 6 ∷ []) $ free1 ! $ move ! (3 ∷ 4 ∷ []) $ free1 ! $ free0 ! $ by ! (exits r u e)))))))))
 

@@ -26,7 +26,6 @@ use denote.Ref.{RefT, now}
 use denote.Signature.{plain}
 use denote.Slice.{ShrSlice, slice-vals, shr-slice-tells, shr-slice-lawful, shr-slice-copy}
 use denote.Steps.{owned, peeks, heard, nothing}
-use denote.Enum.Laws as EL
 use denote.Struct.Laws as LL
 use denote.Struct.Rest.{own-shut}
 use denote.Triple.Statement.{Contract, Triple}
@@ -40,11 +39,10 @@ use denote.Triple.Clauses.{ensured, lasts}
 use Rattle.asdu_walk.specs.Places.{foundAt}
 use Rattle.asdu_walk.specs.declared.Place.{Place}
 use Rattle.asdu_walk.specs.declared.Found.{Found}
-use Rattle.asdu_walk.proofs.Held.{B, D, L, at, slice-val, place-val, walk-val, IsPlace, place-typed, held-typed-local}
+use Rattle.asdu_walk.proofs.Held.{B, D, L, at, slice-val, place-val, walk-val, IsPlace, place-typed, found-typed, held-typed-local}
 use Rattle.asdu_walk.proofs.Place as P
 use Rattle.asdu_walk.proofs.Place.Laws as P′
 use Rattle.asdu_walk.proofs.Found as S
-use Rattle.asdu_walk.proofs.Found.Laws as S′
 use Rattle.asdu_walk.proofs.next as next
 use Rattle.asdu_walk.proofs.next.Symbol as next-def
 use Rattle.asdu_walk.proofs.next.Symbol.{name as #asdu-walk·next}
@@ -113,7 +111,7 @@ module _ {M : Type 1} (𝓤 : URA M) (H : Heap 𝓤) (A : Atoms 𝓤) (W : Given
         split ! $ move ! (1 ∷ []) $ use1 W (raw (fact 𝓤 (r ≡ foundAt (now s) p))) (said r) $ heard ! (r ≡ foundAt (now s) p) (λ e. split ! $ move ! (1 ∷ []) $
         -- [the result; the token; what both own; _3; …; _2; …; _1; …; room for _0; …]
         peeks ! S.the-row (Is S.the-row) (shows 𝓤 H A S.the-row) r (u ∷ []) (λ found.
-        land ! (from ! (stop !)) (init ! 9 refl (EL.lawful S.the-type S′.the-laws 𝓤 H A W tt .typed r _ found .0)) $
+        land ! (from ! (stop !)) (init ! 9 refl (found-typed 𝓤 H A W r u found)) $
         returns ! (look ! 9 refl) $ forget ! 3 refl $ forget ! 5 refl $ forget ! 7 refl $ forget ! 9 refl $
         move ! (9 ∷ 10 ∷ []) $ free1 ! $ move ! (7 ∷ 8 ∷ []) $ free1 ! $ move ! (5 ∷ 6 ∷ []) $ free1 ! $ move ! (3 ∷ 4 ∷ []) $ free1 ! $ free0 ! $ by ! (exits r u e)))))))))
 
