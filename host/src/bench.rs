@@ -12,6 +12,7 @@ pub mod exported {
         pub fn gb_read(frame: *const u8, len: usize, place: usize) -> u32;
         pub fn gb_check(frame: *const u8, len: usize) -> u32;
         pub fn gb_plain(frame: *const u8, len: usize) -> u32;
+        pub fn gb_walk(frame: *const u8, len: usize) -> u32;
         pub fn gb_write(
             frame: *const u8,
             len: usize,
@@ -28,7 +29,13 @@ const FIRST_ADDRESS: u32 = 10;
 
 struct Case {
     name: &'static str,
+    count: u8,
     frame: Vec<u8>,
+}
+
+/// The value of counter `i`.
+fn value(i: u8) -> i32 {
+    1000 * (i32::from(i) + 1) * if i % 2 == 0 { 1 } else { -1 }
 }
 
 /// An I frame with counters of type 15: send number 2, receive number 3, cause 3, common address 1, addresses from 10 on.
@@ -39,8 +46,7 @@ pub fn counters(count: u8, sequence: bool) -> Vec<u8> {
             let address = FIRST_ADDRESS + u32::from(i);
             asdu.extend_from_slice(&address.to_le_bytes()[..3]);
         }
-        let value = 1000 * (i32::from(i) + 1) * if i % 2 == 0 { 1 } else { -1 };
-        asdu.extend_from_slice(&value.to_le_bytes());
+        asdu.extend_from_slice(&value(i).to_le_bytes());
         asdu.push(i % 32);
     }
     let length = u8::try_from(4 + asdu.len()).expect("at most 253");
@@ -100,7 +106,13 @@ fn read_by_rust(frame: &[u8]) -> Apdu {
     black_box(read).expect("the Rust reads it")
 }
 
-fn rows(frame: &[u8]) -> [Row<'_>; 4] {
+/// What walking adds up to, by the octets: the addresses, the values and the sequence numbers of the counters.
+fn sum_of(count: u8) -> u32 {
+    let of = |i| FIRST_ADDRESS.wrapping_add_signed(i32::from(i) + value(i) + i32::from(i % 32));
+    (0..count).map(of).fold(0, u32::wrapping_add)
+}
+
+fn rows(Case { frame, count, .. }: &Case) -> [Row<'_>; 5] {
     let apdu = read_by_rust(frame);
     [
         Row {
@@ -111,6 +123,11 @@ fn rows(frame: &[u8]) -> [Row<'_>; 4] {
         Row {
             name: "check",
             ours: asked(frame, 0, exported::gb_check),
+            rust: repeated(|| drop(read_by_rust(frame))),
+        },
+        Row {
+            name: "walk the objects",
+            ours: asked(frame, sum_of(*count), exported::gb_walk),
             rust: repeated(|| drop(read_by_rust(frame))),
         },
         Row {
@@ -164,12 +181,12 @@ pub fn bench() -> bool {
         "frame", "octets", "what", "ours", "Rust", "copy", "ours/Rust", "ours/copy"
     );
     let cases = [
-        Case { name: "1 counter", frame: counters(1, false) },
-        Case { name: "30 counters, plain", frame: counters(30, false) },
-        Case { name: "48 counters in sequence", frame: counters(48, true) },
+        Case { name: "1 counter", count: 1, frame: counters(1, false) },
+        Case { name: "30 counters, plain", count: 30, frame: counters(30, false) },
+        Case { name: "48 counters in sequence", count: 48, frame: counters(48, true) },
     ];
-    for Case { name, frame } in &cases {
-        for mut row in rows(frame) {
+    for case @ Case { name, frame, .. } in &cases {
+        for mut row in rows(case) {
             let [ours, rust, copy] = best(&mut row, frame);
             println!(
                 "{name:<24} {:>6} {:<20} {ours:>8.1} {rust:>8.1} {copy:>8.1} {:>10.3} {:>10.1}",

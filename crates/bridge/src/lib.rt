@@ -3,6 +3,7 @@
 // number of the refusal as the result, 0 for none. A list that is too short reads as 0 and takes nothing past its
 // end, so no call can fail. Frames are in `bridge_frames`.
 pub mod asdus;
+pub mod walks;
 
 use bridge_records::fields;
 use elements::information_elements::Coi;

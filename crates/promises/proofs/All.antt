@@ -1,5 +1,6 @@
--- The promises of the ASDU level, of the frame level, of assembling and of the link, each together. Assumes nothing.
+-- The promises of the ASDU level, of walking, of the frame level, of assembling and of the link, each together. Assumes nothing.
 use Rattle.promises.specs.Asdus.{AsduLevel}
+use Rattle.promises.specs.Walks.{Walks}
 use Rattle.promises.specs.Frames.{FrameLevel}
 use Rattle.promises.specs.Streams.{StreamLevel}
 use Rattle.promises.specs.Demand3Runs.{Demand3Level}
@@ -9,6 +10,7 @@ use Rattle.promises.proofs.Alike.{writes-alike}
 use Rattle.promises.proofs.Tells.{tells}
 use Rattle.promises.proofs.Accepts.{accepts}
 use Rattle.promises.proofs.Answered.{answers}
+use Rattle.promises.proofs.Walked.{walked}
 use Rattle.promises.proofs.FrameBack.{frame-reads-back}
 use Rattle.promises.proofs.FrameAgain.{frame-writes-again}
 use Rattle.promises.proofs.FrameTells.{frame-tells}
@@ -23,6 +25,9 @@ use Rattle.promises.proofs.Demand3Reach.{reaches}
 
 pub asdu-level : AsduLevel
 asdu-level = record { back = reads-back; again = writes-again; alike = writes-alike; tells = tells; accepts = accepts; answers = answers }
+
+pub walking : Walks
+walking = walked
 
 pub frame-level : FrameLevel
 frame-level = record { back = frame-reads-back; again = frame-writes-again; tells = frame-tells; accepts = frame-accepts }

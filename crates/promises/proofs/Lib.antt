@@ -5,6 +5,7 @@ pub mod WriteAgain
 pub mod Alike
 pub mod Tells
 pub mod Answered
+pub mod Walked
 pub mod FrameBack
 pub mod FrameAgain
 pub mod FrameTells

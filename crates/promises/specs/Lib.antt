@@ -1,5 +1,6 @@
 -- The promises to the customer, and the cases and counts that they speak of.
 pub mod Asdus
+pub mod Walks
 pub mod Frames
 pub mod Cases
 pub mod Streams

@@ -12,6 +12,7 @@ use crate::{hex::Hex, proved::UNTOUCHED};
 mod exported {
     unsafe extern "C" {
         pub fn gg_asdu_read(s: *const u8, len: usize, record: *mut u8, record_len: usize) -> u32;
+        pub fn gg_asdu_walk(s: *const u8, len: usize, record: *mut u8, record_len: usize) -> u32;
         pub fn gg_asdu_check(s: *const u8, len: usize) -> u32;
         pub fn gg_asdu_plain(s: *const u8, len: usize) -> u32;
         pub fn gg_asdu_rewrite(s: *const u8, len: usize, out: *mut u8, out_len: usize) -> u32;
@@ -37,9 +38,12 @@ pub const BEYOND: usize = 3;
 /// More than any ASDU or frame that is written.
 pub const ROOM: usize = 256;
 
+/// Walking over the objects must find what reading gives, and is seen to here.
 pub fn answers(octets: &[u8]) -> Answers {
+    let reading = reading(octets);
+    assert_eq!(filled(octets, exported::gg_asdu_walk), reading, "{:?}: walked over", Hex(octets));
     Answers {
-        reading: reading(octets),
+        reading,
         checking: checking(octets),
         plain: plain(octets),
         rewriting: rewriting(octets, ROOM),
@@ -50,12 +54,17 @@ pub fn refused(number: u32) -> Refusal {
     Refusal::Number(u8::try_from(number).expect("a number of refusal"))
 }
 
-/// A record beside a refusal must be all 0 and clear.
 pub fn reading(octets: &[u8]) -> Result<Record, Refusal> {
+    filled(octets, exported::gg_asdu_read)
+}
+
+/// The record that a call fills from the octets; beside a refusal it must be all 0 and clear.
+fn filled(
+    octets: &[u8],
+    call: unsafe extern "C" fn(*const u8, usize, *mut u8, usize) -> u32,
+) -> Result<Record, Refusal> {
     let mut out = [UNTOUCHED; RECORD_SIZE + BEYOND];
-    let number = unsafe {
-        exported::gg_asdu_read(octets.as_ptr(), octets.len(), out.as_mut_ptr(), RECORD_SIZE)
-    };
+    let number = unsafe { call(octets.as_ptr(), octets.len(), out.as_mut_ptr(), RECORD_SIZE) };
     let (written, beyond) = out.split_at(RECORD_SIZE);
     assert_eq!(beyond, [UNTOUCHED; BEYOND], "{:?}: past the record", Hex(octets));
     let record = Record::from_octets(written);

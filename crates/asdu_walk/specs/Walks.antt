@@ -1,0 +1,17 @@
+-- The same of a walk that keeps the ASDU beside its place.
+use Prim.Native.Nat.{ℕ}
+use mathlib.Core.List.{List}
+use denote.Ref.{RefT, now}
+use Rattle.asdu_walk.specs.Places.{startOf, foundAt, afterOf}
+use Rattle.asdu_walk.specs.declared.Place.{Place}
+use Rattle.asdu_walk.specs.declared.Found.{Found}
+use Rattle.asdu_walk.specs.declared.Walk.{Walk}
+
+abbrev pub walkOf : RefT (List ℕ) → Walk
+walkOf x = record { asdu = x; place = startOf (now x) }
+
+abbrev pub nextOf : Walk → Found
+nextOf w = foundAt (now (w .asdu)) (w .place)
+
+abbrev pub walkAfter : Walk → Walk
+walkAfter w = record { asdu = w .asdu; place = afterOf (w .place) }
