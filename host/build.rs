@@ -1,6 +1,6 @@
 //! Links the proved library, the archives of `$GRASSGLISTEN_NATIVE`.
-const ARCHIVES: [&str; 5] =
-    ["bridge", "bridge_frames", "bridge_streams", "bridge_link", "bench_bridge"];
+const ARCHIVES: [&str; 6] =
+    ["bridge", "bridge_frames", "bridge_streams", "bridge_link", "bench_bridge", "bench_walk"];
 
 fn main() {
     println!("cargo:rerun-if-env-changed=GRASSGLISTEN_NATIVE");

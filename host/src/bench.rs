@@ -6,7 +6,7 @@ use iec104::apdu::Apdu;
 
 use crate::streams;
 
-/// The exported functions of crates/bench_bridge. A slice goes over as its address and its length.
+/// The exported functions of crates/bench_bridge and crates/bench_walk. A slice goes over as its address and its length.
 pub mod exported {
     unsafe extern "C" {
         pub fn gb_read(frame: *const u8, len: usize, place: usize) -> u32;
@@ -135,7 +135,7 @@ fn rows(Case { frame, count, .. }: &Case) -> [Row<'_>; 5] {
             ours: asked(frame, 0, exported::gb_plain),
             rust: repeated(move || {
                 let again = read_by_rust(frame).to_bytes().expect("the Rust writes it");
-                black_box(again == frame);
+                black_box(again == *frame);
             }),
         },
         Row {

@@ -37,7 +37,8 @@ refusing s n = replicate n (Found.Refused (refusal (readRefusal s)))
 
 -- a walk that skips, repeats or changes an object, ends early, goes on after the end, or takes what reading refuses, fails
 pub record Walks : Type 0 where
-  pub walks : (x : RefT (List ℕ)) (n : ℕ) → readRefusal (now x) ≡ 0 → steps (walkOf x) (countOf (now x) + n) ≡ inOrder (now x) n
+  pub walks : (x : RefT (List ℕ)) (n : ℕ) → readRefusal (now x) ≡ 0
+      → steps (walkOf x) (countOf (now x) + n) ≡ inOrder (now x) n
   pub refuses : (x : RefT (List ℕ)) (n : ℕ) → (readRefusal (now x) ≡ 0 → ⊥) → steps (walkOf x) n ≡ refusing (now x) n
   pub walks-plain : (s : List ℕ) (n : ℕ) → readRefusal s ≡ 0 → placeSteps s (startOf s) (countOf s + n) ≡ inOrder s n
   pub refuses-plain : (s : List ℕ) (n : ℕ) → (readRefusal s ≡ 0 → ⊥) → placeSteps s (startOf s) n ≡ refusing s n

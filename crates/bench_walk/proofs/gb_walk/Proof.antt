@@ -1,10 +1,10 @@
--- `bench_bridge::gb_walk` is safe and ends: the measure is the number of objects that an ASDU may still have.
+-- `bench_walk::gb_walk` is safe and ends: the measure is the number of objects that an ASDU may still have.
 -- Assumes nothing.
 use Prim.Native.Nat.{_-_}
 use native.Mathlib.Omega.{arith}
 use borrow.Author.Needs.{needs}
-use Rattle.bench_bridge.proofs.gb_walk.Statement.{statement}
-use Rattle.bench_bridge.proofs.gb_walk.Tie as tie
+use Rattle.bench_walk.proofs.gb_walk.Statement.{statement}
+use Rattle.bench_walk.proofs.gb_walk.Tie as tie
 
 abbrev Inv-loop : tie.InvT-loop
 Inv-loop f asdu place₀ sum₀ i₀ place sum i = Unit {0}
