@@ -1,5 +1,5 @@
 // Walking over an ASDU's objects as a C function that the host times (host/src/bench.rs): for tests only. It is apart from
-// bench_bridge, so that each is compiled as in a program that either walks or reads to a record (decision 48).
+// bench_bridge, so that each is compiled as in a program that either walks or reads to a record (decision 50).
 use apdu::reading;
 use asdu::header::MAX_OBJECTS;
 use asdu_walk::Found;
