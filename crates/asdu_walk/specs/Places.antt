@@ -30,3 +30,9 @@ foundAt s p = pick (eqb (p .refusal .0) 0) (foundBy (kindOf (getD s 0 0)) s (p .
 -- one further; 255, past the last object of any ASDU, stays
 unfoldable pub afterOf : Place → Place
 afterOf p = record { refusal = p .refusal; index = pick (eqb (p .index) 255) 255 (p .index + 1) }
+
+-- an answer's number, 0 for an object and at the end
+abbrev pub foundNumber : Found → ℕ
+foundNumber (Found.Object o) = 0
+foundNumber Found.End = 0
+foundNumber (Found.Refused r) = r .0

@@ -5,8 +5,9 @@ ghost use Prim.Native.Nat.{_+_, _≤_};
 ghost use lib.ListN.{drop};
 ghost use Rattle.laws.specs.Choice.{pick};
 ghost use Rattle.laws.specs.Numbers.{leOf};
+ghost use Rattle.elements.specs.Refusals.{refusal};
 ghost use Rattle.asdu.specs.Reading.{objectIn};
-ghost use Rattle.asdu_walk.specs.Places.{startOf, foundAt, afterOf};
+ghost use Rattle.asdu_walk.specs.Places.{startOf, foundAt, afterOf, foundNumber};
 ghost use Rattle.asdu_walk.specs.Walks.{walkOf, nextOf, walkAfter};
 use asdu::check;
 use asdu::header;
@@ -22,6 +23,18 @@ pub enum Found {
     Object(Object),
     End,
     Refused(Refusal),
+}
+
+impl Found {
+    pub fn refusal(self) -> Refusal
+        ensures { λ r. ⌜ r ≡ refusal (foundNumber self) ⌝ }
+    {
+        match self {
+            Found::Object(_) => Refusal::NONE,
+            Found::End => Refusal::NONE,
+            Found::Refused(r) => r,
+        }
+    }
 }
 
 // Where a walk stands: at the object of an index, or at the refusal of an ASDU that does not read. So it is checked once.
