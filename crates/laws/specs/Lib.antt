@@ -1,3 +1,4 @@
+-- The definitions of this crate, bottom up.
 pub mod Choice
 pub mod Bits
 pub mod Numbers

@@ -24,8 +24,8 @@ timesOf w times = ring (λ (q : ℕ). getD times q 0) (length times) (w .first) 
 unfoldable pub waitingOf : Queue → List ℕ → List (List ℕ)
 waitingOf q pool = ring (λ (i : ℕ). slot pool i (getD (q .lengths) i 0)) 16 (q .place) (q .count)
 
--- the numbers are the remainders of the totals, S − A frames are outstanding, ring and pool hold the lists in order, and the rest is
--- the same
+-- the numbers are the remainders of the totals, S − A frames are outstanding, ring and pool hold the lists in order, and the
+-- rest is the same
 pub record Means (s : State) (times pool : List ℕ) (a : Abstract) : Type 0 where
   pub settings : s .settings ≡ a .settings
   pub next : s .window .next .0 ≡ onWire (a .sent)

@@ -21,7 +21,8 @@ pub data Run (s : Settings) (start : ℕ) (pool : List ℕ) : Link → List ℕ 
       → Run s start pool (linkAfter (called (c .event) l between (c .output) (c .now))) (called (c .event) l between (c .output) (c .now) .pool)
       (step (c .event) (c .now) a .link)
 
--- what the limits of refusal 19 say of totals and lists: S − A send times, at most k; what waits, at most p, and only with k outstanding
+-- what the limits of refusal 19 say of totals and lists: S − A send times, at most k; what waits, at most p, and only with k
+-- outstanding
 pub record Within (a : Abstract) : Type 0 where
   pub confirmed : a .confirmed ≤ a .sent
   pub times : length (a .times) ≡ outstanding a
