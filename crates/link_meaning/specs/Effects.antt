@@ -1,5 +1,5 @@
 -- What a call does to totals and lists, whatever the event: counted from the call, its number and the frames that it handed out.
-use Prim.Native.Nat.{ℕ, _+_, _<_}
+use Prim.Native.Nat.{ℕ, _+_, _<_, _≤_}
 use mathlib.Core.Bool.{Bool, true, false}
 use mathlib.Core.Path.{_≡_}
 use mathlib.Core.List.{List, [], _∷_, _++_}
@@ -36,6 +36,13 @@ tellsR [] = false
 tellsR (iFrame s r x ∷ fs) = true
 tellsR (sFrame r ∷ fs) = true
 tellsR (uFrame u ∷ fs) = tellsR fs
+
+-- how many of them carry no ASDU: S and U frames
+unfoldable pub others : List Frame → ℕ
+others [] = 0
+others (iFrame s r x ∷ fs) = others fs
+others (sFrame r ∷ fs) = others fs + 1
+others (uFrame u ∷ fs) = others fs + 1
 
 -- how many frames a receive number frees where A are confirmed
 abbrev pub freesBy : FrameAnswer → ℕ → ℕ
@@ -77,7 +84,7 @@ takes tick refused = []
 
 -- S goes up by the I frames handed out, R by those accepted, A by those freed; the freed times leave, and each new one is now; what
 -- waited, and then what was taken, is handed out in order or still waits; the frames have the numbers that they should; the count
--- is that of the I frames accepted since a frame last told R
+-- is that of the I frames accepted since a frame last told R; at most two frames carry no ASDU, and a refusal hands out none
 pub record Effect (e : Event) (now : ℕ) (a : Abstract) (r : Result) : Type 0 where
   pub sent : r .link .sent ≡ a .sent + length (asdusOf (r .frames))
   pub received : r .link .received ≡ a .received + counts e (r .refused)
@@ -87,6 +94,8 @@ pub record Effect (e : Event) (now : ℕ) (a : Abstract) (r : Result) : Type 0 w
   pub numbers : Numbered (a .sent) (r .link .received) (r .frames)
   pub unconfirmed : r .link .unconfirmed ≡ pick (tellsR (r .frames)) 0 (a .unconfirmed + counts e (r .refused))
   pub settings : r .link .settings ≡ a .settings
+  pub few : others (r .frames) ≤ 2
+  pub silent : (r .refused ≡ 0 → ⊥) → r .frames ≡ []
 
 abbrev pub HasEffect : Type 0
 HasEffect = (e : Event) (now : ℕ) (a : Abstract) → Within a → Effect e now a (step e now a)

@@ -6,7 +6,7 @@ use mathlib.Core.List.{List, [], _∷_, _++_, append-assoc}
 use native.Mathlib.Omega.{arith}
 use native.Mathlib.Nat.{add-zero, mod-eq-of-lt}
 use borrow.Author.Tests.{eqb-true, eqb-false, eq-eqb}
-use lib.ListN.{length, take, drop, getD, replicate, length-append, length-replicate}
+use lib.ListN.{length, take, drop, getD, replicate, length-append, length-drop, length-replicate}
 use lib.Seq.{sets, take-at, drop-drop, drop-append-le, getD-drop}
 use lib.Dec.{eqb}
 use Rattle.laws.specs.Choice.{pick}
@@ -36,16 +36,16 @@ use Rattle.link.specs.declared.answers.LinkAnswer.the-variants as LinkAnswer
 use Rattle.link.proofs.Wires.{wire-append}
 use Rattle.link_meaning.specs.Abstract.{Abstract, Result, fresh, step}
 use Rattle.link_meaning.specs.Meaning.{OctetsIn, waitingOf, timesOf, SameOutcome}
-use Rattle.link_meaning.specs.Effects.{asdusOf, tellsR, countsBy, counts}
-use Rattle.link_meaning.specs.Runs.{Agrees}
+use Rattle.link_meaning.specs.Effects.{asdusOf, tellsR, frees, counts, takes, Effect}
+use Rattle.link_meaning.specs.Runs.{Agrees, Within}
 use Rattle.link_meaning.specs.Runs as totals
 use Rattle.link_meaning.proofs.Effects.{has-effect}
 use Rattle.link_meaning.proofs.Meaning.{steps-alike, opens-fresh}
 use Rattle.link_meaning.proofs.Runs.{runs-agree}
 use Rattle.promises.specs.Demand3.{Call, outcomeOf, answered, poolAfter, Entry, entryOf, Run, opening, after, cut, iFramesIn, iFrames, allHanded, S, sendTimes, asdusIn, haveLeft, Brought, framed, brings, receivedBy, confirmedBy, R, A, takenBy, taken, toldIn, untold, Numbered, Claim, Begun, Demand3}
 use Rattle.promises.proofs.Demand3Pool.{pool-is}
-use Rattle.promises.proofs.Demand3Wire.{AllFit, allOf, each, stream-wire, all-fit, asdus-out, numbers-out, fit-append, each-append, kept-append, told-out}
-use Rattle.promises.proofs.Demand3Steps.{AllPlain, Exact, Stepped, numberOf, stepped, exactly}
+use Rattle.promises.proofs.Demand3Wire.{AllFit, AllPlain, allOf, each, stream-wire, all-fit, asdus-out, numbers-out, fit-append, each-append, kept-append, told-out}
+use Rattle.promises.proofs.Demand3Steps.{Exact, numberOf, counts-are, frees-are, takes-are, takes-plain, wire-fits, exactly}
 
 -- ---- what a frame brings
 
@@ -136,140 +136,146 @@ asdus-long : (fs : List (List ℕ)) → length (asdusIn fs) ≡ length fs
 asdus-long [] = refl
 asdus-long (f ∷ fs) = ap suc (asdus-long fs)
 
-plain-rest : (xs ys : List (List ℕ)) → AllPlain (xs ++ ys) → AllPlain ys
-plain-rest [] ys h = h
-plain-rest (x ∷ xs) ys h = plain-rest xs ys (h .1)
+plain-append : (xs ys : List (List ℕ)) → AllPlain xs → AllPlain ys → AllPlain (xs ++ ys)
+plain-append [] ys h k = k
+plain-append (x ∷ xs) ys h k = (h .0, plain-append xs ys (h .1) k)
 
--- an I frame that is accepted counts
-counted-by : (q : FrameAnswer) (b : Bool) (x : ℕ) → x + pick b (countsBy q) 0 ≡ pick b (receivedBy (framed q) x) x
-counted-by (FrameAnswer.I s r) true x = refl
-counted-by (FrameAnswer.S r) true x = add-zero x
-counted-by (FrameAnswer.U u) true x = add-zero x
-counted-by (FrameAnswer.Refused r) true x = add-zero x
-counted-by (FrameAnswer.I s r) false x = add-zero x
-counted-by (FrameAnswer.S r) false x = add-zero x
-counted-by (FrameAnswer.U u) false x = add-zero x
-counted-by (FrameAnswer.Refused r) false x = add-zero x
-
-no-frame : (b : Bool) (x : ℕ) → x + 0 ≡ pick b x x
-no-frame true x = add-zero x
-no-frame false x = add-zero x
-
-counts-are : (e : Event) (n x : ℕ) → x + counts e n ≡ pick (eqb n 0) (receivedBy (brings e) x) x
-counts-are (frame f more) n x = counted-by (frameAnswer f) (eqb n 0) x
-counts-are (send asdu) n x = no-frame (eqb n 0) x
-counts-are stop n x = no-frame (eqb n 0) x
-counts-are test n x = no-frame (eqb n 0) x
-counts-are tick n x = no-frame (eqb n 0) x
+plain-parts : (xs ys : List (List ℕ)) → AllPlain (xs ++ ys) → AllPlain xs × AllPlain ys
+plain-parts [] ys h = (tt, h)
+plain-parts (x ∷ xs) ys h = let p = plain-parts xs ys (h .1) in ((h .0, p .0), p .1)
 
 -- one entry more
-module _ (s : Settings) (e : Entry) (past : List Entry) (a : Abstract) (r : Result) (c : Counted s past a) (st : Stepped (brings (e .event)) (e .now) a r)
-    (number : e .number ≡ r .refused) (bytes : e .handed ≡ wire (r .frames)) where
+module _ (s : Settings) (e : Entry) (past : List Entry) (a : Abstract) (r : Result) (c : Counted s past a) (f : Effect (e .event) (e .now) a r)
+    (new-plain : AllPlain (takes (e .event) (r .refused))) where
   out : List (List ℕ)
   out = asdusOf (r .frames)
 
+  plain : AllPlain out × AllPlain (r .link .waiting)
+  unfolding out
+  plain = plain-parts out (r .link .waiting) (subst AllPlain (f .order) (plain-append (a .waiting) (takes (e .event) (r .refused)) (c .plain) new-plain))
+
   fit : AllFit (r .frames)
-  fit = all-fit (st .base .sent) (st .base .received) (r .frames) (st .went .carries)
-
-  streamed : stream (e .handed) ≡ allOf (r .frames)
-  streamed = ap stream bytes ∙ stream-wire (r .frames) fit
-
-  cut-is : cut (e .handed) ≡ each (r .frames)
-  cut-is = ap (λ (o : StreamOutcome). o .frames) streamed
-
-  ends : stream (e .handed) .end ≡ rest []
-  ends = ap (λ (o : StreamOutcome). o .end) streamed
-
-  left-is : asdusIn (iFramesIn (cut (e .handed))) ≡ out
   unfolding out
-  left-is = ap (λ (l : List (List ℕ)). asdusIn (iFramesIn l)) cut-is ∙ asdus-out (st .base .sent) (st .base .received) (r .frames) (st .went .carries)
+  fit = all-fit (a .sent) (r .link .received) (r .frames) (f .numbers) (plain .0)
 
-  many : length (iFramesIn (cut (e .handed))) ≡ length out
-  many = sym (asdus-long (iFramesIn (cut (e .handed)))) ∙ ap length left-is
+  module _ (w : Within a) (v : Within (r .link)) (number : e .number ≡ r .refused) (bytes : e .handed ≡ wire (r .frames)) where
+    streamed : stream (e .handed) ≡ allOf (r .frames)
+    streamed = ap stream bytes ∙ stream-wire (r .frames) fit
 
-  received-is : st .base .received ≡ R (e ∷ past)
-  received-is = st .received ∙ cc (number, c .received)
+    cut-is : cut (e .handed) ≡ each (r .frames)
+    cut-is = ap (λ (o : StreamOutcome). o .frames) streamed
 
-  confirmed-is : st .base .confirmed ≡ A (e ∷ past)
-  confirmed-is = st .confirmed ∙ cc (number, c .confirmed)
+    ends : stream (e .handed) .end ≡ rest []
+    ends = ap (λ (o : StreamOutcome). o .end) streamed
 
-  numbers : Numbered (S past) (R (e ∷ past)) (cut (e .handed))
-  numbers =
-      let n = numbers-out (st .base .sent) (st .base .received) (r .frames) (st .went .carries) in
-      rw cut-is (subst (λ (k : ℕ). Numbered k (R (e ∷ past)) (each (r .frames))) (st .sent ∙ c .sent)
-      (subst (λ (k : ℕ). Numbered (st .base .sent) k (each (r .frames))) received-is n))
+    left-is : asdusIn (iFramesIn (cut (e .handed))) ≡ out
+    unfolding out
+    left-is = ap (λ (l : List (List ℕ)). asdusIn (iFramesIn l)) cut-is ∙ asdus-out (r .frames) fit
 
-  sent-is : r .link .sent ≡ S (e ∷ past)
-  unfolding out
-  sent-is =
-      let h = st .went .sent in
-      omega (arith, length-append (iFrames past) (iFramesIn (cut (e .handed))), many, st .sent, c .sent)
+    many : length (iFramesIn (cut (e .handed))) ≡ length out
+    many = sym (asdus-long (iFramesIn (cut (e .handed)))) ∙ ap length left-is
 
-  low : A (e ∷ past) ≤ length (sendTimes past)
-  low = let u = st .upto in omega (arith, confirmed-is, c .sent, c .timed)
+    received-is : r .link .received ≡ R (e ∷ past)
+    received-is = f .received ∙ (counts-are (e .event) (r .refused) (a .received) ∙ cc (number, c .received))
 
-  times-are : r .link .times ≡ drop (A (e ∷ past)) (sendTimes (e ∷ past))
-  unfolding out
-  times-are =
-      let base : st .base .times ≡ drop (A (e ∷ past)) (sendTimes past) =
-      st .times
-      ∙ (ap (drop (st .steps)) (c .times)
-      ∙ (drop-drop (st .steps) (A past) (sendTimes past)
-      ∙ ap (λ (k : ℕ). drop k (sendTimes past)) (ap (λ (k : ℕ). k + st .steps) (sym (c .confirmed)) ∙ (sym (st .counted) ∙ confirmed-is)))) in
-      st .went .times
-      ∙ (cc (base, many)
-      ∙ sym (drop-append-le (A (e ∷ past)) (sendTimes past) (replicate (length (iFramesIn (cut (e .handed)))) (e .now)) low))
+    confirmed-is : r .link .confirmed ≡ A (e ∷ past)
+    confirmed-is = f .confirmed ∙ (frees-are (e .event) (r .refused) (a .confirmed) ∙ cc (number, c .confirmed))
 
-  timed : length (sendTimes (e ∷ past)) ≡ S (e ∷ past)
-  timed =
-      let n = length (iFramesIn (cut (e .handed))) in
-      omega (
-        arith,
-        length-append (sendTimes past) (replicate n (e .now)),
-        length-replicate n (e .now),
-        length-append (iFrames past) (iFramesIn (cut (e .handed))),
-        c .timed,
-      )
+    numbers : Numbered (S past) (R (e ∷ past)) (cut (e .handed))
+    numbers =
+        let n = numbers-out (a .sent) (r .link .received) (r .frames) (f .numbers) fit in
+        rw cut-is (subst (λ (k : ℕ). Numbered k (R (e ∷ past)) (each (r .frames))) (c .sent)
+        (subst (λ (k : ℕ). Numbered (a .sent) k (each (r .frames))) received-is n))
 
-  order : taken (e ∷ past) ≡ haveLeft (e ∷ past) ++ r .link .waiting
-  unfolding out
-  order =
-      let new = pick (eqb (e .number) 0) (takenBy (brings (e .event))) [] in
-      let base : a .waiting ++ new ≡ out ++ r .link .waiting = cc (number, st .waiting, st .went .waiting) in
-      ap (λ (l : List (List ℕ)). l ++ new) (c .order)
-      ∙ (append-assoc (haveLeft past) (a .waiting) new
-      ∙ (ap (λ (l : List (List ℕ)). haveLeft past ++ l) base
-      ∙ (sym (append-assoc (haveLeft past) out (r .link .waiting))
-      ∙ ap (λ (l : List (List ℕ)). l ++ r .link .waiting)
-      (ap (λ (l : List (List ℕ)). haveLeft past ++ l) (sym left-is) ∙ sym (asdus-append (iFrames past) (iFramesIn (cut (e .handed))))))))
+    sent-is : r .link .sent ≡ S (e ∷ past)
+    unfolding out
+    sent-is =
+        let h = f .sent in
+        omega (arith, length-append (iFrames past) (iFramesIn (cut (e .handed))), many, c .sent)
 
-  untold-is : r .link .unconfirmed ≡ pick (tellsR (r .frames)) 0 (a .unconfirmed + counts (e .event) (r .refused)) → r .link .unconfirmed ≡ untold (e ∷ past)
-  untold-is effect =
-      let n = a .unconfirmed + counts (e .event) (r .refused) in
-      let told : toldIn (cut (e .handed)) ≡ tellsR (r .frames) = ap toldIn cut-is ∙ told-out (r .frames) fit in
-      let count : n ≡ pick (eqb (e .number) 0) (receivedBy (brings (e .event)) (untold past)) (untold past) =
-      ap (λ (k : ℕ). a .unconfirmed + counts (e .event) k) (sym number)
-      ∙ (ap (λ (x : ℕ). x + counts (e .event) (e .number)) (c .unconfirmed) ∙ counts-are (e .event) (e .number) (untold past)) in
-      effect ∙ (ap (λ (b : Bool). pick b 0 n) (sym told) ∙ ap (λ (k : ℕ). pick (toldIn (cut (e .handed))) 0 k) count)
+    abbrev steps : ℕ
+    steps = frees (e .event) (r .refused) (a .confirmed)
 
-  counted : r .link .unconfirmed ≡ pick (tellsR (r .frames)) 0 (a .unconfirmed + counts (e .event) (r .refused)) → Counted s (e ∷ past) (r .link)
-  unfolding out
-  counted effect =
-      record {
-        settings = st .went .settings ∙ (st .settings ∙ c .settings);
-        sent = sent-is;
-        received = st .went .received ∙ received-is;
-        confirmed = st .went .confirmed ∙ confirmed-is;
-        times = times-are;
-        timed = timed;
-        order = order;
-        unconfirmed = untold-is effect;
-        plain = plain-rest out (r .link .waiting) (subst AllPlain (st .went .waiting) (st .plain));
-        frames = c .frames ++ r .frames;
-        fit = fit-append (c .frames) (r .frames) (c .fit) fit;
-        bytes = rw (c .bytes, bytes) (sym (wire-append (c .frames) (r .frames)));
-        kept = rw (c .kept, cut-is, each-append (c .frames) (r .frames)) (sym (kept-append (each (c .frames)) (each (r .frames))));
-      }
+    -- no more is confirmed than was handed out before the call: else there were too many send times after it
+    low : A (e ∷ past) ≤ length (sendTimes past)
+    low =
+        let sent = f .sent in
+        let confirmed = f .confirmed in
+        let before = w .times in
+        let least = w .confirmed in
+        let after = v .times in
+        let most = v .confirmed in
+        omega (
+          arith,
+          confirmed-is,
+          c .sent,
+          c .timed,
+          ap length (f .times),
+          length-append (drop steps (a .times)) (replicate (length (asdusOf (r .frames))) (e .now)),
+          length-drop steps (a .times),
+          length-replicate (length (asdusOf (r .frames))) (e .now),
+        )
+
+    times-are : r .link .times ≡ drop (A (e ∷ past)) (sendTimes (e ∷ past))
+    unfolding out
+    times-are =
+        let before : drop steps (a .times) ≡ drop (A (e ∷ past)) (sendTimes past) =
+        ap (drop steps) (c .times)
+        ∙ (drop-drop steps (A past) (sendTimes past)
+        ∙ ap (λ (k : ℕ). drop k (sendTimes past)) (ap (λ (k : ℕ). k + steps) (sym (c .confirmed)) ∙ (sym (f .confirmed) ∙ confirmed-is))) in
+        f .times
+        ∙ (cc (before, many)
+        ∙ sym (drop-append-le (A (e ∷ past)) (sendTimes past) (replicate (length (iFramesIn (cut (e .handed)))) (e .now)) low))
+
+    timed : length (sendTimes (e ∷ past)) ≡ S (e ∷ past)
+    timed =
+        let n = length (iFramesIn (cut (e .handed))) in
+        omega (
+          arith,
+          length-append (sendTimes past) (replicate n (e .now)),
+          length-replicate n (e .now),
+          length-append (iFrames past) (iFramesIn (cut (e .handed))),
+          c .timed,
+        )
+
+    order : taken (e ∷ past) ≡ haveLeft (e ∷ past) ++ r .link .waiting
+    unfolding out
+    order =
+        let new = pick (eqb (e .number) 0) (takenBy (brings (e .event))) [] in
+        let same : a .waiting ++ new ≡ out ++ r .link .waiting =
+        cc (number, sym (takes-are (e .event) (r .refused))) ∙ f .order in
+        ap (λ (l : List (List ℕ)). l ++ new) (c .order)
+        ∙ (append-assoc (haveLeft past) (a .waiting) new
+        ∙ (ap (λ (l : List (List ℕ)). haveLeft past ++ l) same
+        ∙ (sym (append-assoc (haveLeft past) out (r .link .waiting))
+        ∙ ap (λ (l : List (List ℕ)). l ++ r .link .waiting)
+        (ap (λ (l : List (List ℕ)). haveLeft past ++ l) (sym left-is) ∙ sym (asdus-append (iFrames past) (iFramesIn (cut (e .handed))))))))
+
+    untold-is : r .link .unconfirmed ≡ untold (e ∷ past)
+    untold-is =
+        let n = a .unconfirmed + counts (e .event) (r .refused) in
+        let told : toldIn (cut (e .handed)) ≡ tellsR (r .frames) = ap toldIn cut-is ∙ told-out (r .frames) fit in
+        let count : n ≡ pick (eqb (e .number) 0) (receivedBy (brings (e .event)) (untold past)) (untold past) =
+        counts-are (e .event) (r .refused) (a .unconfirmed) ∙ cc (number, c .unconfirmed) in
+        f .unconfirmed ∙ (ap (λ (b : Bool). pick b 0 n) (sym told) ∙ ap (λ (k : ℕ). pick (toldIn (cut (e .handed))) 0 k) count)
+
+    counted : Counted s (e ∷ past) (r .link)
+    counted =
+        record {
+          settings = f .settings ∙ c .settings;
+          sent = sent-is;
+          received = received-is;
+          confirmed = confirmed-is;
+          times = times-are;
+          timed = timed;
+          order = order;
+          unconfirmed = untold-is;
+          plain = plain .1;
+          frames = c .frames ++ r .frames;
+          fit = fit-append (c .frames) (r .frames) (c .fit) fit;
+          bytes = rw (c .bytes, bytes) (sym (wire-append (c .frames) (r .frames)));
+          kept = rw (c .kept, cut-is, each-append (c .frames) (r .frames)) (sym (kept-append (each (c .frames)) (each (r .frames))));
+        }
 
 -- ---- what a link that agrees with a transcript has
 
@@ -349,8 +355,20 @@ module _ (s : Settings) (start : ℕ) (pool : List ℕ) (past : List Entry) (l :
   alike : SameOutcome (outcomeOf c l between) result
   alike = steps-alike (c .event) l between (length (c .output)) (c .now) (k .link) (agrees .shaped) o free (agrees .means)
 
-  done : Stepped (brings (c .event)) (c .now) (k .link) result
-  done = stepped (c .now) (k .link) (agrees .within) few (k .counted .plain) (c .event)
+  done : Effect (c .event) (c .now) (k .link) result
+  done = has-effect (c .event) (c .now) (k .link) (agrees .within)
+
+  new-plain : AllPlain (takes (c .event) (result .refused))
+  new-plain = takes-plain (c .event) (c .now) (k .link)
+
+  run : totals.Run s start pool (answered c l between .link) (poolAfter c l between) (result .link)
+  unfolding calledOf
+  run =
+      subst (λ (q : List ℕ). totals.Run s start pool (answered c l between .link) q (result .link)) (pool-is (c .event) l between (length (c .output)) (c .now))
+      (totals.after (k .run) (record { event = c .event; output = length (c .output); now = c .now }) o free)
+
+  within : Within (result .link)
+  within = runs-agree s start pool (answered c l between .link) (poolAfter c l between) (result .link) run .within
 
   entry-number : entryOf c l between .number ≡ result .refused
   unfolding calledOf
@@ -360,21 +378,18 @@ module _ (s : Settings) (start : ℕ) (pool : List ℕ) (past : List Entry) (l :
   unfolding calledOf
   entry-bytes =
       let fs = alike .frames in
-      let size = done .went .size in
+      let all = fit s (entryOf c l between) past (k .link) result (k .counted) done new-plain in
+      let size = wire-fits (c .event) (c .now) (k .link) result done (agrees .within) within few all in
       let room = passed l (length (c .output)) (length between) (c .now) free .output-room in
       bytes-are (outcomeOf c l between) (c .output) (λ z. fs ∙ done .silent (λ q. z (alike .refused ∙ q))) (omega (arith, ap (λ (x : List Frame). length (wire x)) fs))
       ∙ ap wire fs
 
   pub next : Known s start pool (entryOf c l between ∷ past) (answered c l between .link) (poolAfter c l between)
-  unfolding calledOf
   next =
       record {
         link = result .link;
-        run =
-            subst (λ (q : List ℕ). totals.Run s start pool (answered c l between .link) q (result .link)) (pool-is (c .event) l between (length (c .output)) (c .now))
-            (totals.after (k .run) (record { event = c .event; output = length (c .output); now = c .now }) o free);
-        counted = counted s (entryOf c l between) past (k .link) result (k .counted) done entry-number entry-bytes
-            (has-effect (c .event) (c .now) (k .link) (agrees .within) .unconfirmed);
+        run = run;
+        counted = counted s (entryOf c l between) past (k .link) result (k .counted) done new-plain (agrees .within) within entry-number entry-bytes;
       }
 
   pub next-link : next .link ≡ result .link
@@ -415,8 +430,8 @@ module _ (s : Settings) (start : ℕ) (pool : List ℕ) (past : List Entry) (l :
         unique = λ r x y p q. single r x p ∙ sym (single r y q);
         s-becomes = λ r x h z f. becomes r (ap (λ (b : Brought). confirmedBy b (A past)) h) x z f;
         i-becomes = λ n r x h z f. becomes r (ap (λ (b : Brought). confirmedBy b (A past)) h) x z f;
-        numbers = numbers s e past (k .link) result (k .counted) done entry-number entry-bytes;
-        whole = ends s e past (k .link) result (k .counted) done entry-number entry-bytes;
+        numbers = numbers s e past (k .link) result (k .counted) done new-plain (agrees .within) within entry-number entry-bytes;
+        whole = ends s e past (k .link) result (k .counted) done new-plain (agrees .within) within entry-number entry-bytes;
         one-stream = one-stream s (e ∷ past) l′ pool′ a still d;
         outstanding = outstanding s (e ∷ past) l′ pool′ a still d;
         at-most-k = at-most-k s (e ∷ past) l′ pool′ a still d;

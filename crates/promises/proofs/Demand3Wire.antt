@@ -1,9 +1,9 @@
 -- The bytes of frames that are handed out, cut and read again: each frame, its numbers and its ASDU. Assumes nothing.
-use Prim.Native.Nat.{ℕ, zero, suc, _+_, _%_, _≤_}
-use mathlib.Core.Path.{_≡_, refl, sym, ap, subst, _∙_}
+use Prim.Native.Nat.{ℕ, zero, suc, _+_, _*_, _%_, _≤_}
+use mathlib.Core.Path.{_≡_, refl, sym, ap, _∙_}
 use mathlib.Core.List.{List, [], _∷_, _++_, append-assoc}
 use native.Mathlib.Omega.{arith}
-use native.Mathlib.Nat.{add-zero, le-refl}
+use native.Mathlib.Nat.{le-refl}
 use borrow.Author.Tests.{le-ltb}
 use lib.ListN.{length, length-append}
 use lib.Seq.{take-at, drop-at}
@@ -23,7 +23,7 @@ use Rattle.assembly.specs.declared.start.StartAnswer.{StartAnswer}
 use Rattle.assembly.specs.declared.start.StartAnswer.the-variants.{Whole}
 use Rattle.assembly.proofs.Sights.{enough-whole, longer-whole}
 use Rattle.link.specs.Frames.{Frame, iFrame, sFrame, uFrame, octetsOf, wire}
-use Rattle.link_meaning.specs.Effects.{asdusOf, tellsR}
+use Rattle.link_meaning.specs.Effects.{asdusOf, tellsR, others, Numbered as NumberedFrames}
 use Rattle.asdu.proofs.Passed.{plain-reads, plain-sized}
 use Rattle.promises.specs.Demand3.{keepI, iFramesIn, asdusIn, Numbered, toldIn}
 use Rattle.promises.proofs.FrameBack.{i-reads, part-is, s-reads, frame-reads-back}
@@ -52,15 +52,15 @@ unfolding octetsOf
 part s r x h = part-is s r x (reads (iFrame s r x) h)
 
 -- six octets without an ASDU; with one, at most 255
-pub s-six : (r : ℕ) → length (octetsOf (sFrame r)) ≡ 6
+s-six : (r : ℕ) → length (octetsOf (sFrame r)) ≡ 6
 unfolding octetsOf sOctets leOctets
 s-six r = refl
 
-pub u-six : (u : UFrame) → length (octetsOf (uFrame u)) ≡ 6
+u-six : (u : UFrame) → length (octetsOf (uFrame u)) ≡ 6
 unfolding octetsOf uOctets leOctets
 u-six u = refl
 
-pub i-most : (s r : ℕ) (x : List ℕ) → plainAnswer x ≡ PlainAnswer.Plain → length (octetsOf (iFrame s r x)) ≤ 255
+i-most : (s r : ℕ) (x : List ℕ) → plainAnswer x ≡ PlainAnswer.Plain → length (octetsOf (iFrame s r x)) ≤ 255
 unfolding octetsOf
 i-most s r x e = let z = plain-sized x e in omega (arith, i-long s r x, z .1)
 
@@ -114,42 +114,45 @@ pub stream-wire : (fs : List Frame) → AllFit fs → stream (wire fs) ≡ allOf
 unfolding stream
 stream-wire fs h = cuts-wire fs h (length (wire fs)) 0 (le-refl _)
 
+pub wire-most : (fs : List Frame) → AllFit fs → length (wire fs) ≤ 255 * length (asdusOf fs) + 6 * others fs
+unfolding wire asdusOf others
+wire-most [] h = omega arith
+wire-most (iFrame s r x ∷ fs) h = let f = iFrame s r x in omega (arith, length-append (octetsOf f) (wire fs), i-most s r x (h .0 .2), wire-most fs (h .1))
+wire-most (sFrame r ∷ fs) h = let f = sFrame r in omega (arith, length-append (octetsOf f) (wire fs), s-six r, wire-most fs (h .1))
+wire-most (uFrame u ∷ fs) h = let f = uFrame u in omega (arith, length-append (octetsOf f) (wire fs), u-six u, wire-most fs (h .1))
+
 -- ---- frames with their numbers
 
--- s I frames went out before, and r were accepted
-abbrev pub Carrying : ℕ → ℕ → List Frame → Type 0
-Carrying s r [] = Unit {0}
-Carrying s r (iFrame n m x ∷ fs) = (n ≡ s % 32768) × (m ≡ r % 32768) × (plainAnswer x ≡ PlainAnswer.Plain) × Carrying (s + 1) r fs
-Carrying s r (sFrame m ∷ fs) = (m ≡ r % 32768) × Carrying s r fs
-Carrying s r (uFrame u ∷ fs) = Carrying s r fs
+-- ASDUs of plain form
+abbrev pub AllPlain : List (List ℕ) → Type 0
+AllPlain [] = Unit {0}
+AllPlain (x ∷ xs) = (plainAnswer x ≡ PlainAnswer.Plain) × AllPlain xs
 
 low : (n : ℕ) → n % 32768 ≤ 32767
 low n = omega arith
 
-pub all-fit : (s r : ℕ) (fs : List Frame) → Carrying s r fs → AllFit fs
-all-fit s r [] h = tt
-all-fit s r (iFrame n m x ∷ fs) h = ((omega (arith, low s, h .0), omega (arith, low r, h .1), h .2), all-fit (s + 1) r fs (h .3))
-all-fit s r (sFrame m ∷ fs) h = (omega (arith, low r, h .0), all-fit s r fs (h .1))
-all-fit s r (uFrame u ∷ fs) h = (tt, all-fit s r fs h)
+pub all-fit : (s r : ℕ) (fs : List Frame) → NumberedFrames s r fs → AllPlain (asdusOf fs) → AllFit fs
+unfolding asdusOf NumberedFrames
+all-fit s r [] h p = tt
+all-fit s r (iFrame n m x ∷ fs) h p = ((omega (arith, low s, h .0), omega (arith, low r, h .1), p .0), all-fit (s + 1) r fs (h .2) (p .1))
+all-fit s r (sFrame m ∷ fs) h p = (omega (arith, low r, h .0), all-fit s r fs (h .1) p)
+all-fit s r (uFrame u ∷ fs) h p = (tt, all-fit s r fs h p)
 
-pub asdus-out : (s r : ℕ) (fs : List Frame) → Carrying s r fs → asdusIn (iFramesIn (each fs)) ≡ asdusOf fs
+pub asdus-out : (fs : List Frame) → AllFit fs → asdusIn (iFramesIn (each fs)) ≡ asdusOf fs
 unfolding asdusOf
-asdus-out s r fs h = go fs (all-fit s r fs h)
-  where
-    go : (gs : List Frame) → AllFit gs → asdusIn (iFramesIn (each gs)) ≡ asdusOf gs
-    go [] f = refl
-    go (iFrame n m x ∷ gs) f =
-        let rest-is = go gs (f .1) in
-        rw (reads (iFrame n m x) (f .0)) (λ i. part n m x (f .0) i ∷ rest-is i)
-    go (sFrame m ∷ gs) f = rw (reads (sFrame m) (f .0)) (go gs (f .1))
-    go (uFrame u ∷ gs) f = rw (reads (uFrame u) (f .0)) (go gs (f .1))
+asdus-out [] f = refl
+asdus-out (iFrame n m x ∷ fs) f =
+    let rest-is = asdus-out fs (f .1) in
+    rw (reads (iFrame n m x) (f .0)) (λ i. part n m x (f .0) i ∷ rest-is i)
+asdus-out (sFrame m ∷ fs) f = rw (reads (sFrame m) (f .0)) (asdus-out fs (f .1))
+asdus-out (uFrame u ∷ fs) f = rw (reads (uFrame u) (f .0)) (asdus-out fs (f .1))
 
-pub numbers-out : (s r : ℕ) (fs : List Frame) → Carrying s r fs → Numbered s r (each fs)
-numbers-out s r [] h = tt
-numbers-out s r (iFrame n m x ∷ fs) h =
-    rw (reads (iFrame n m x) (all-fit s r (iFrame n m x ∷ fs) h .0)) ((h .0, h .1), numbers-out (s + 1) r fs (h .3))
-numbers-out s r (sFrame m ∷ fs) h = rw (reads (sFrame m) (all-fit s r (sFrame m ∷ fs) h .0)) (h .0, numbers-out s r fs (h .1))
-numbers-out s r (uFrame u ∷ fs) h = rw (reads (uFrame u) tt) (tt, numbers-out s r fs h)
+pub numbers-out : (s r : ℕ) (fs : List Frame) → NumberedFrames s r fs → AllFit fs → Numbered s r (each fs)
+unfolding NumberedFrames
+numbers-out s r [] h f = tt
+numbers-out s r (iFrame n m x ∷ fs) h f = rw (reads (iFrame n m x) (f .0)) ((h .0, h .1), numbers-out (s + 1) r fs (h .2) (f .1))
+numbers-out s r (sFrame m ∷ fs) h f = rw (reads (sFrame m) (f .0)) (h .0, numbers-out s r fs (h .1) (f .1))
+numbers-out s r (uFrame u ∷ fs) h f = rw (reads (uFrame u) (f .0)) (tt, numbers-out s r fs h (f .1))
 
 -- which frames tell R
 pub told-out : (fs : List Frame) → AllFit fs → toldIn (each fs) ≡ tellsR fs
@@ -173,10 +176,3 @@ pub kept-append : (xs ys : List (List ℕ)) → iFramesIn (xs ++ ys) ≡ iFrames
 kept-append [] ys = refl
 kept-append (x ∷ xs) ys =
     ap (λ (l : List (List ℕ)). keepI (frameAnswer x) x ++ l) (kept-append xs ys) ∙ sym (append-assoc (keepI (frameAnswer x) x) (iFramesIn xs) (iFramesIn ys))
-
-pub carry-append : (s r t : ℕ) (fs gs : List Frame) → t ≡ s + length (asdusOf fs) → Carrying s r fs → Carrying t r gs → Carrying s r (fs ++ gs)
-unfolding asdusOf
-carry-append s r t [] gs e h k = subst (λ (n : ℕ). Carrying n r gs) (e ∙ add-zero s) k
-carry-append s r t (iFrame n m x ∷ fs) gs e h k = (h .0, h .1, h .2, carry-append (s + 1) r t fs gs (omega arith) (h .3) k)
-carry-append s r t (sFrame m ∷ fs) gs e h k = (h .0, carry-append s r t fs gs e (h .1) k)
-carry-append s r t (uFrame u ∷ fs) gs e h k = carry-append s r t fs gs e h k
