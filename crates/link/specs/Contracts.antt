@@ -1,4 +1,4 @@
--- What the code's answers are, given a call's outcome. The records from `Makes` on stand in contracts of helpers only: what a step
+-- What the code's answers are, given a call's outcome. What comes after the answers stands in contracts of helpers only: what a step
 -- of a call rests on and has done. No promise speaks of them.
 use Prim.Native.Nat.{ℕ, _+_, _%_, _≤_, _<_}
 use mathlib.Core.Bool.{Bool, false}
@@ -9,7 +9,9 @@ use lib.Seq.{sets}
 use lib.Dec.{eqb}
 use Rattle.laws.specs.Choice.{pick}
 use Rattle.elements.specs.Refusals.{refusal}
+use Rattle.elements.specs.declared.refusals.Refusal.{Refusal}
 use Rattle.link_state.specs.declared.State.{State}
+use Rattle.link_state.specs.declared.Link.{Link}
 use Rattle.link.specs.Frames.{wire}
 use Rattle.link.specs.Making.{Making, windowFull}
 use Rattle.link.specs.Events.{Outcome}
@@ -51,6 +53,16 @@ linkFull (LinkAnswer.Refused r) = false
 abbrev pub linkCame : LinkAnswer → Bool
 linkCame (LinkAnswer.Done d) = d .came
 linkCame (LinkAnswer.Refused r) = false
+
+-- ---- the ends of a call
+
+-- refused by its check: the link as it was
+abbrev pub refusedCall : Link → Refusal → Called
+refusedCall l r = record { link = l; answer = LinkAnswer.Refused r }
+
+-- the ring joins what the event has come to
+abbrev pub callOf : List ℕ → Step → Called
+callOf times r = record { link = record { times = times; state = r .state }; answer = r .answer }
 
 -- ---- what a step has done
 

@@ -17,7 +17,6 @@ use apdu::reading;
 use apdu::writing;
 use elements::refusals::Refusal;
 use link::answers::Called;
-use link::answers::LinkAnswer;
 use link::answers::Made;
 use link::answers::Step;
 use link_state::Deadline;
@@ -203,19 +202,9 @@ pub fn receive(l: Link, pool: &[u8], out: &mut [u8], f: &[u8], more: bool, momen
 {
     let refused = limits::check_call(l, out.len(), pool.len(), moment);
     if !refused.is_none() {
-        return Called {
-            link: l,
-            answer: LinkAnswer::Refused(refused),
-        };
+        return steps::refuse_call(l, refused);
     }
     let mut times = l.times;
-    let state = l.state;
-    let step = on_frame(state, &mut times, pool, out, f, more, moment);
-    let after = step.state;
-    let answer = step.answer;
-    let link = Link {
-        times,
-        state: after,
-    };
-    Called { link, answer }
+    let step = on_frame(l.state, &mut times, pool, out, f, more, moment);
+    steps::end_call(times, step)
 }

@@ -1,6 +1,6 @@
 // Send: an ASDU to send goes out at once, or waits in the pool.
 ghost use mathlib.Core.Path.{_≡_};
-ghost use Prim.Native.Nat.{ℕ, _+_, _≤_, _<_};
+ghost use Prim.Native.Nat.{ℕ, _≤_, _<_};
 ghost use mathlib.Core.List.{List};
 ghost use lib.ListN.{length};
 ghost use lib.Seq.{sets};
@@ -12,7 +12,6 @@ ghost use Rattle.link.specs.Contracts.{Does, DoesSend, Open, calledOf};
 use asdu::PlainAnswer;
 use elements::refusals::Refusal;
 use link::answers::Called;
-use link::answers::LinkAnswer;
 use link::answers::Step;
 use link_state::Link;
 use link_state::State;
@@ -78,19 +77,9 @@ pub fn send(l: Link, pool: &mut [u8], out: &mut [u8], asdu: &[u8], moment: u64) 
 {
     let refused = limits::check_call(l, out.len(), pool.len(), moment);
     if !refused.is_none() {
-        return Called {
-            link: l,
-            answer: LinkAnswer::Refused(refused),
-        };
+        return steps::refuse_call(l, refused);
     }
     let mut times = l.times;
-    let state = l.state;
-    let step = on_send(state, &mut times, pool, out, asdu, moment);
-    let after = step.state;
-    let answer = step.answer;
-    let link = Link {
-        times,
-        state: after,
-    };
-    Called { link, answer }
+    let step = on_send(l.state, &mut times, pool, out, asdu, moment);
+    steps::end_call(times, step)
 }

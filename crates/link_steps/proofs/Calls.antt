@@ -1,6 +1,6 @@
 -- A call as a whole: what a passed check gives the event, and what the call answers, refused by its check or not. Assumes nothing.
 use Prim.Native.Nat.{ℕ, _+_, _%_, _≤_}
-use mathlib.Core.Path.{_≡_, subst}
+use mathlib.Core.Path.{_≡_, subst, _∙_}
 use mathlib.Core.Bool.{Bool, true, not}
 use mathlib.Core.List.{List}
 use native.Mathlib.Omega.{arith}
@@ -14,11 +14,10 @@ use Rattle.link_state.specs.Limits.{callRefusal}
 use Rattle.link_state.specs.declared.Link.{Link}
 use Rattle.link_state.proofs.Sound.{Sound, Passed, passed, sound-state, sound-lengths, sound-times}
 use Rattle.link.specs.declared.answers.Called.{Called}
-use Rattle.link.specs.declared.answers.LinkAnswer.the-variants as LinkAnswer
 use Rattle.link.specs.declared.answers.Step.{Step}
 use Rattle.link.specs.Frames.{wire}
 use Rattle.link.specs.Events.{Event, refusing, eventOutcome, called}
-use Rattle.link.specs.Contracts.{Does, DoesSend, Calm, Aged, Open, answerOf, stepFor, calledOf}
+use Rattle.link.specs.Contracts.{Does, DoesSend, Calm, Aged, Open, answerOf, stepFor, calledOf, refusedCall, callOf}
 
 -- ---- a passed check
 
@@ -74,31 +73,25 @@ module _ (l : Link) (output pool now : ℕ) (e : callRefusal l output pool now �
 
 -- ---- what the call answers
 
-abbrev refusedCall : Link → Refusal → Called
-refusedCall l w = record { link = l; answer = LinkAnswer.Refused w }
-
-abbrev callOf : List ℕ → Step → Called
-callOf times r = record { link = record { times = times; state = r .state }; answer = r .answer }
-
 module _ (e : Event) (l : Link) (pool out : List ℕ) (now : ℕ) where
-  pub call-refused : {w : Refusal} {b : Bool} → w ≡ refusal (callRefusal l (length out) (length pool) now) → b ≡ eqb (w .0) 0 → not b ≡ true
-      → (refusedCall l w ≡ calledOf (called e l pool (length out) now))
+  pub call-refused : {w : Refusal} {b : Bool} {a : Called} → w ≡ refusal (callRefusal l (length out) (length pool) now) → b ≡ eqb (w .0) 0 → not b ≡ true → a ≡ refusedCall l w
+      → (a ≡ calledOf (called e l pool (length out) now))
       × (pool ≡ called e l pool (length out) now .pool)
       × (out ≡ sets out 0 (wire (called e l pool (length out) now .frames)))
   unfolding called calledOf answerOf refusing wire
-  call-refused is tested taken =
+  call-refused is tested taken ends =
       let stops = some (callRefusal l (length out) (length pool) now) is tested taken in
-      (rw stops (rw (stops, is)), rw stops, rw stops)
+      (ends ∙ rw stops (rw (stops, is)), rw stops, rw stops)
 
-  module _ (passes : callRefusal l (length out) (length pool) now ≡ 0) {r : Step} {ts₁ out₁ : List ℕ} where
+  module _ (passes : callRefusal l (length out) (length pool) now ≡ 0) {a : Called} {r : Step} {ts₁ out₁ : List ℕ} (ends : a ≡ callOf ts₁ r) where
     pub call-does : Does (eventOutcome e (l .state) (l .times) pool now) out r ts₁ out₁
-        → (callOf ts₁ r ≡ calledOf (called e l pool (length out) now))
+        → (a ≡ calledOf (called e l pool (length out) now))
         × (out₁ ≡ sets out 0 (wire (called e l pool (length out) now .frames)))
     unfolding called calledOf stepFor
-    call-does d = (rw (passes, d .ring, d .answers .step), rw passes (d .answers .octets))
+    call-does d = (ends ∙ rw (passes, d .ring, d .answers .step), rw passes (d .answers .octets))
 
     pub call-sends : {pool₁ : List ℕ} → DoesSend (eventOutcome e (l .state) (l .times) pool now) out r ts₁ pool₁ out₁
-        → (callOf ts₁ r ≡ calledOf (called e l pool (length out) now))
+        → (a ≡ calledOf (called e l pool (length out) now))
         × (pool₁ ≡ called e l pool (length out) now .pool)
         × (out₁ ≡ sets out 0 (wire (called e l pool (length out) now .frames)))
     unfolding called

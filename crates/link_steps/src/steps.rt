@@ -7,14 +7,16 @@ ghost use lib.Seq.{sets};
 ghost use Rattle.apdu.specs.Writing.{startOctets, sOctets};
 ghost use Rattle.link.specs.Making.{freedOf, sentOf, confirmedOf, due, testedOf, ending, setT1u, setT3, startT2, shut, handOut};
 ghost use Rattle.link.specs.Events.{start};
-ghost use Rattle.link.specs.Contracts.{madeOf, doneStep, refusedStep, Makes, HandsOut, Timed, CanSend};
+ghost use Rattle.link.specs.Contracts.{madeOf, doneStep, refusedStep, refusedCall, callOf, Makes, HandsOut, Timed, CanSend};
 use apdu::writing;
 use elements::refusals::Refusal;
+use link::answers::Called;
 use link::answers::Done;
 use link::answers::LinkAnswer;
 use link::answers::Made;
 use link::answers::Step;
 use link_state::Deadline;
+use link_state::Link;
 use link_state::State;
 use link_state::Status;
 
@@ -66,6 +68,26 @@ pub fn close(s: State, r: Refusal) -> Step
     ensures { λ a. ⌜ a ≡ refusedStep (shut (r .0) s) (r .0) ⌝ }
 {
     refuse(end_link(s, r), r)
+}
+
+// What the check of every call refuses.
+pub fn refuse_call(l: Link, r: Refusal) -> Called
+    ensures { λ a. ⌜ a ≡ refusedCall l r ⌝ }
+{
+    Called {
+        link: l,
+        answer: LinkAnswer::Refused(r),
+    }
+}
+
+// An event's step joins the ring again.
+pub fn end_call(times: [u64; 32], step: Step) -> Called
+    ensures { λ r. ⌜ r ≡ callOf times step ⌝ }
+{
+    let state = step.state;
+    let answer = step.answer;
+    let link = Link { times, state };
+    Called { link, answer }
 }
 
 pub fn set_t1u(s: State, moment: u64) -> State

@@ -11,7 +11,6 @@ ghost use Rattle.link.specs.Contracts.{Answers, Makes, Calm, Aged, calledOf};
 use apdu::writing;
 use elements::refusals::Refusal;
 use link::answers::Called;
-use link::answers::LinkAnswer;
 use link::answers::Made;
 use link::answers::Step;
 use link_state::Deadline;
@@ -119,21 +118,11 @@ pub fn stop(l: Link, pool: &[u8], out: &mut [u8], moment: u64) -> Called
 {
     let refused = limits::check_call(l, out.len(), pool.len(), moment);
     if !refused.is_none() {
-        return Called {
-            link: l,
-            answer: LinkAnswer::Refused(refused),
-        };
+        return steps::refuse_call(l, refused);
     }
     let times = l.times;
-    let state = l.state;
-    let step = on_stop(state, out, moment);
-    let after = step.state;
-    let answer = step.answer;
-    let link = Link {
-        times,
-        state: after,
-    };
-    Called { link, answer }
+    let step = on_stop(l.state, out, moment);
+    steps::end_call(times, step)
 }
 
 pub fn test(l: Link, pool: &[u8], out: &mut [u8], moment: u64) -> Called
@@ -142,21 +131,11 @@ pub fn test(l: Link, pool: &[u8], out: &mut [u8], moment: u64) -> Called
 {
     let refused = limits::check_call(l, out.len(), pool.len(), moment);
     if !refused.is_none() {
-        return Called {
-            link: l,
-            answer: LinkAnswer::Refused(refused),
-        };
+        return steps::refuse_call(l, refused);
     }
     let times = l.times;
-    let state = l.state;
-    let step = on_test(state, out, moment);
-    let after = step.state;
-    let answer = step.answer;
-    let link = Link {
-        times,
-        state: after,
-    };
-    Called { link, answer }
+    let step = on_test(l.state, out, moment);
+    steps::end_call(times, step)
 }
 
 pub fn tick(l: Link, pool: &[u8], out: &mut [u8], moment: u64) -> Called
@@ -165,19 +144,9 @@ pub fn tick(l: Link, pool: &[u8], out: &mut [u8], moment: u64) -> Called
 {
     let refused = limits::check_call(l, out.len(), pool.len(), moment);
     if !refused.is_none() {
-        return Called {
-            link: l,
-            answer: LinkAnswer::Refused(refused),
-        };
+        return steps::refuse_call(l, refused);
     }
     let times = l.times;
-    let state = l.state;
-    let step = on_tick(state, &times, out, moment);
-    let after = step.state;
-    let answer = step.answer;
-    let link = Link {
-        times,
-        state: after,
-    };
-    Called { link, answer }
+    let step = on_tick(l.state, &times, out, moment);
+    steps::end_call(times, step)
 }

@@ -14,10 +14,13 @@ check-call-requires c κs = search needs
 is-none-requires : tie.Need-is-none-requires
 is-none-requires c κs = search needs
 
+refuse-call-requires : tie.Need-refuse-call-requires
+refuse-call-requires c κs = search needs
+
 returns : tie.Need-returns
 returns c =
-    let s = c .before .before .before .before .before .before in
-    let r = call-refused (frame (s .args .f .now) (s .args .more)) (s .args .l) (s .args .pool .now) (s .args .out .now) (s .args .moment) (c .before .before .check-call .ensures) (c .before .is-none .ensures) (c .if1 .taken) in
+    let s = c .before .before .before .before .before .before .before in
+    let r = call-refused (frame (s .args .f .now) (s .args .more)) (s .args .l) (s .args .pool .now) (s .args .out .now) (s .args .moment) (c .before .before .before .check-call .ensures) (c .before .before .is-none .ensures) (c .before .if1 .taken) (c .refuse-call .ensures) in
     (r .0, r .2)
 
 slice-aggregate-on-frame : tie.Need-slice-aggregate-on-frame
@@ -25,10 +28,13 @@ slice-aggregate-on-frame c = search needs
 
 on-frame-requires : tie.Need-on-frame-requires
 on-frame-requires c κs =
-    let s = c .before .before .before .before .before .before .before .before .before .before in
-    let passes = none _ (c .before .before .before .before .before .before .check-call .ensures) (c .before .before .before .before .before .is-none .ensures) (c .before .before .before .before .if1 .left) in
+    let s = c .before .before .before .before .before .before .before .before .before in
+    let passes = none _ (c .before .before .before .before .before .check-call .ensures) (c .before .before .before .before .is-none .ensures) (c .before .before .before .if1 .left) in
     let long : length (s .args .l .times) ≡ 32 = sym (length-map (s .args .l .times) _) ∙ s .good .0 .1 .1 .0 .1 .0 .1 in
     (opened (s .args .l) (length (s .args .out .now)) (length (s .args .pool .now)) (s .args .moment) passes long, few-unconfirmed (s .args .l) (length (s .args .out .now)) (length (s .args .pool .now)) (s .args .moment) passes)
+
+end-call-requires : tie.Need-end-call-requires
+end-call-requires c κs = search needs
 
 same-length : tie.Need-same-length
 same-length c = c .before .before .before .before .on-frame .kept .1 .1 .1 .0
@@ -36,9 +42,9 @@ same-length c = c .before .before .before .before .on-frame .kept .1 .1 .1 .0
 returns-2 : tie.Need-returns-2
 unfolding eventOutcome
 returns-2 c =
-    let s = c .before .before .before .before .before .before .before .before .before .before .before .before .before .before .before in
-    let passes = none _ (c .before .before .before .before .before .before .before .before .before .before .before .check-call .ensures) (c .before .before .before .before .before .before .before .before .before .before .is-none .ensures) (c .before .before .before .before .before .before .before .before .before .if1 .left) in
-    call-does (frame (s .args .f .now) (s .args .more)) (s .args .l) (s .args .pool .now) (s .args .out .now) (s .args .moment) passes (c .before .before .before .before .on-frame .ensures)
+    let s = c .before .before .before .before .before .before .before .before .before .before .before .before .before .before in
+    let passes = none _ (c .before .before .before .before .before .before .before .before .before .before .check-call .ensures) (c .before .before .before .before .before .before .before .before .before .is-none .ensures) (c .before .before .before .before .before .before .before .before .if1 .left) in
+    call-does (frame (s .args .f .now) (s .args .more)) (s .args .l) (s .args .pool .now) (s .args .out .now) (s .args .moment) passes (c .end-call .ensures) (c .before .before .before .before .on-frame .ensures)
 
 pub receive-spec : {M : Type 1} → statement M
 receive-spec =
@@ -46,8 +52,10 @@ receive-spec =
     (tie.spec
     check-call-requires
     is-none-requires
+    refuse-call-requires
     returns
     slice-aggregate-on-frame
     on-frame-requires
+    end-call-requires
     same-length
     returns-2)

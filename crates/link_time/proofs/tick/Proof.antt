@@ -15,10 +15,13 @@ check-call-requires c κs = search needs
 is-none-requires : tie.Need-is-none-requires
 is-none-requires c κs = search needs
 
+refuse-call-requires : tie.Need-refuse-call-requires
+refuse-call-requires c κs = search needs
+
 returns : tie.Need-returns
 returns c =
-    let s = c .before .before .before .before .before in
-    let r = call-refused tick (s .args .l) (s .args .pool .now) (s .args .out .now) (s .args .moment) (c .before .before .check-call .ensures) (c .before .is-none .ensures) (c .if1 .taken) in
+    let s = c .before .before .before .before .before .before in
+    let r = call-refused tick (s .args .l) (s .args .pool .now) (s .args .out .now) (s .args .moment) (c .before .before .before .check-call .ensures) (c .before .before .is-none .ensures) (c .before .if1 .taken) (c .refuse-call .ensures) in
     (r .0, r .2)
 
 slice-aggregate-on-tick : tie.Need-slice-aggregate-on-tick
@@ -26,10 +29,13 @@ slice-aggregate-on-tick c = search needs
 
 on-tick-requires : tie.Need-on-tick-requires
 on-tick-requires c κs =
-    let s = c .before .before .before .before .before .before .before .before .before in
-    let passes = none _ (c .before .before .before .before .before .before .check-call .ensures) (c .before .before .before .before .before .is-none .ensures) (c .before .before .before .before .if1 .left) in
+    let s = c .before .before .before .before .before .before .before .before in
+    let passes = none _ (c .before .before .before .before .before .check-call .ensures) (c .before .before .before .before .is-none .ensures) (c .before .before .before .if1 .left) in
     let long : length (s .args .l .times) ≡ 32 = sym (length-map (s .args .l .times) _) ∙ s .good .0 .1 .1 .0 .1 .0 .1 in
     (calm (s .args .l) (length (s .args .out .now)) (length (s .args .pool .now)) (s .args .moment) passes, aged (s .args .l) (length (s .args .out .now)) (length (s .args .pool .now)) (s .args .moment) passes long)
+
+end-call-requires : tie.Need-end-call-requires
+end-call-requires c κs = search needs
 
 same-length : tie.Need-same-length
 same-length c = c .before .before .before .on-tick .kept .1 .1 .0
@@ -37,11 +43,11 @@ same-length c = c .before .before .before .on-tick .kept .1 .1 .0
 returns-2 : tie.Need-returns-2
 unfolding eventOutcome
 returns-2 c =
-    let s = c .before .before .before .before .before .before .before .before .before .before .before .before .before in
+    let s = c .before .before .before .before .before .before .before .before .before .before .before .before in
     let l = s .args .l in
     let pool = s .args .pool .now in
-    let passes = none _ (c .before .before .before .before .before .before .before .before .before .before .check-call .ensures) (c .before .before .before .before .before .before .before .before .before .is-none .ensures) (c .before .before .before .before .before .before .before .before .if1 .left) in
-    call-does tick (s .args .l) (s .args .pool .now) (s .args .out .now) (s .args .moment) passes (does-same (c .before .before .before .on-tick .ensures pool) (tick-times (l .state) (l .times) pool (s .args .moment)))
+    let passes = none _ (c .before .before .before .before .before .before .before .before .before .check-call .ensures) (c .before .before .before .before .before .before .before .before .is-none .ensures) (c .before .before .before .before .before .before .before .if1 .left) in
+    call-does tick (s .args .l) (s .args .pool .now) (s .args .out .now) (s .args .moment) passes (c .end-call .ensures) (does-same (c .before .before .before .on-tick .ensures pool) (tick-times (l .state) (l .times) pool (s .args .moment)))
 
 pub tick-spec : {M : Type 1} → statement M
 tick-spec =
@@ -49,8 +55,10 @@ tick-spec =
     (tie.spec
     check-call-requires
     is-none-requires
+    refuse-call-requires
     returns
     slice-aggregate-on-tick
     on-tick-requires
+    end-call-requires
     same-length
     returns-2)
