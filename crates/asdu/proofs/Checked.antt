@@ -11,7 +11,7 @@ use Rattle.laws.proofs.Choices.{both}
 use Rattle.objects.specs.Kinds.{kindOf}
 use Rattle.objects.specs.declared.kinds.KindAnswer.{KindAnswer}
 use Rattle.objects.specs.declared.kinds.KindAnswer.the-variants.{Carried, NotCarried}
-use Rattle.asdu.specs.Header.{sequenceIn, countIn, earlyRefusal, headerRefusalBy, headerRefusal, headerIn, headerBy, headerAnswer}
+use Rattle.asdu.specs.Header.{sequenceIn, countIn, earlyRefusal, headerRefusalBy, headerRefusal, headerIn, headerBy}
 use Rattle.asdu.specs.Reading.{refusalBy, readRefusal, addressesRefusal}
 use Rattle.asdu.specs.declared.header.HeaderAnswer.{HeaderAnswer}
 use Rattle.asdu.proofs.Starts.{refuses, answers}

@@ -8,7 +8,7 @@ use native.Mathlib.Nat.{mul-le-mul}
 use lib.Dec.{eqb}
 use lib.ListN.{getD, length}
 use Rattle.laws.specs.Choice.{pick, _then_}
-use Rattle.elements.specs.Refusals.{refusal, typeNotCarried}
+use Rattle.elements.specs.Refusals.{refusal}
 use Rattle.elements.specs.declared.refusals.Refusal.{Refusal}
 use Rattle.objects.specs.Kinds.{kindOf}
 use Rattle.objects.specs.declared.kinds.Kind.{Kind}

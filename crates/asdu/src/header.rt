@@ -1,7 +1,6 @@
 // The header of an ASDU: type, sequence mark and count, test and negative marks with the cause, originator, common address.
 ghost use mathlib.Core.Path.{_≡_};
 ghost use Prim.Native.Nat.{_≤_};
-ghost use lib.ListN.{length};
 ghost use Rattle.elements.specs.Refusals.{refusal};
 ghost use Rattle.asdu.specs.Header.{causeListed, stepOf, needed, layoutRefusal, earlyRefusal, headerRefusal, headerIn, headerAnswer, headerNumber};
 use elements::refusals::Refusal;

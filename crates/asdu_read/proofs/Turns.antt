@@ -27,7 +27,6 @@ use Rattle.asdu.specs.Reading.{objectIn, objectAt, answerAt, firstOf, objectsRe
 use Rattle.asdu.specs.declared.Asdu.{Asdu}
 use Rattle.asdu.specs.declared.Answer.{Answer}
 use Rattle.asdu.specs.declared.Answer.the-variants as Answer
-use Rattle.asdu.specs.declared.ReadAsdu.{ReadAsdu}
 use Rattle.asdu.specs.declared.header.Header.{Header}
 use Rattle.asdu.specs.declared.header.HeaderAnswer.{HeaderAnswer}
 use Rattle.asdu.specs.declared.header.HeaderAnswer.the-variants as HeaderAnswer

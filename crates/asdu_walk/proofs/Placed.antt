@@ -15,7 +15,7 @@ use Rattle.objects.specs.Kinds.{kindOf}
 use Rattle.objects.specs.Objects.{objectOf}
 use Rattle.objects.specs.declared.kinds.Kind.{Kind}
 use Rattle.objects.specs.declared.kinds.KindAnswer.{KindAnswer}
-use Rattle.objects.specs.declared.kinds.KindAnswer.the-variants.{Carried, NotCarried}
+use Rattle.objects.specs.declared.kinds.KindAnswer.the-variants.{Carried}
 use Rattle.objects.specs.declared.Object.{Object}
 use Rattle.asdu.specs.Header.{stepOf}
 use Rattle.asdu.specs.Reading.{objectIn}

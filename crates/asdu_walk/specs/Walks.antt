@@ -3,7 +3,6 @@ use Prim.Native.Nat.{ℕ}
 use mathlib.Core.List.{List}
 use denote.Ref.{RefT, now}
 use Rattle.asdu_walk.specs.Places.{startOf, foundAt, afterOf}
-use Rattle.asdu_walk.specs.declared.Place.{Place}
 use Rattle.asdu_walk.specs.declared.Found.{Found}
 use Rattle.asdu_walk.specs.declared.Walk.{Walk}
 

@@ -2,7 +2,7 @@
 ghost use mathlib.Core.Path.{_≡_};
 ghost use mathlib.Core.Bool.{false};
 ghost use Prim.Native.Nat.{_+_, _≤_, _<_};
-ghost use lib.ListN.{length, take, drop};
+ghost use lib.ListN.{length, drop};
 ghost use lib.Seq.{sets};
 ghost use Rattle.elements.specs.Refusals.{refusal};
 ghost use Rattle.asdu.specs.Writing.{ownObjects, firstAddress, firstRefusal, shapeRefusal, sizeRefusal, writeRefusalBy, writeRefusal, headerOctets, addressOctets, bodyOctets, objectsOctets, asduOctets, writeAnswer, written};

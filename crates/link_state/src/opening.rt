@@ -1,6 +1,5 @@
 // Opening a link: data transfer starts with all counts 0, t3 set, the other timers unset.
 ghost use mathlib.Core.Path.{_≡_};
-ghost use Prim.Native.Nat.{_≤_};
 ghost use Rattle.elements.specs.Refusals.{refusal};
 ghost use Rattle.link_state.specs.Opening.{freshLink, refusedOpening, opened, openNumber};
 use crate::Deadline;

@@ -21,7 +21,6 @@ use Rattle.elements.specs.Refusals.{refusal}
 use Rattle.objects.specs.Kinds.{typeOf, kindOf, sizeOf}
 use Rattle.objects.specs.Objects.{blank}
 use Rattle.objects.specs.declared.kinds.Kind.{Kind}
-use Rattle.objects.specs.declared.kinds.Kind.the-variants as Kind
 use Rattle.objects.specs.declared.kinds.KindAnswer.{KindAnswer}
 use Rattle.objects.specs.declared.kinds.KindAnswer.the-variants.{Carried, NotCarried}
 use Rattle.objects.specs.declared.Object.{Object}

@@ -5,7 +5,7 @@ use Prim.Native.Nat.{ℕ}
 use lib.ListN.{length}
 use Rattle.asdu.specs.declared.WriteAnswer.{WriteAnswer}
 use Rattle.apdu.specs.Writing.{sOctets, sRefusal, answerFor, outputFor}
-use Rattle.promises.specs.Settled.{Left, Form, Settles, FormSettles}
+use Rattle.promises.specs.Settled.{Left, Settles, FormSettles}
 
 both : (R : Type 0) (a b : R) (l m : List (List ℕ)) → a ≡ b → l ≡ m → _≡_ {A = Left R} (record { result = a; lent = l }) (record { result = b; lent = m })
 both R a b l m e f = rw (e, f)

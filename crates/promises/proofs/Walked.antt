@@ -2,11 +2,11 @@
 use Prim.Native.Nat.{ℕ, zero, suc, _+_, _≤_}
 use mathlib.Core.Path.{_≡_, refl, sym, ap, _∙_}
 use mathlib.Core.Bool.{Bool, true, false}
-use mathlib.Core.List.{List, [], _∷_, _++_, map}
+use mathlib.Core.List.{List, _∷_, _++_, map}
 use native.Mathlib.Omega.{arith}
 use native.Mathlib.Numerals.{add-one}
-use borrow.Author.Tests.{lt-ltb, le-ltb, eqb-true, ne-eqb}
-use denote.Ref.{RefT, now}
+use borrow.Author.Tests.{lt-ltb, le-ltb, ne-eqb}
+use denote.Ref.{now}
 use lib.Dec.{eqb}
 use lib.ListN.{getD, replicate}
 use Rattle.laws.specs.Choice.{pick}
@@ -29,7 +29,7 @@ use Rattle.asdu_walk.specs.declared.Walk.{Walk}
 use Rattle.asdu_walk.specs.declared.Found.{Found}
 use Rattle.asdu_walk.specs.declared.Found.the-variants as Found
 use Rattle.promises.specs.Walks.{Walks, steps, placeSteps, inOrder, countOf, refusing}
-use Rattle.promises.proofs.Bodies.{Accepted, accepted, header-taken, read-is, own-back}
+use Rattle.promises.proofs.Bodies.{accepted, header-taken, read-is, own-back}
 
 -- ---- an ASDU that does not read
 

@@ -1,6 +1,6 @@
 -- `asdu_read::object_answer` meets its contract. Assumes nothing.
 use Prim.Native.Nat.{_*_, _≤_}
-use mathlib.Core.Path.{_≡_, _∙_}
+use mathlib.Core.Path.{_∙_}
 use native.Mathlib.Omega.{arith}
 use borrow.Author.Needs.{needs}
 use Rattle.asdu.specs.Reading.{answerAt}
