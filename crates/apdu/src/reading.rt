@@ -10,7 +10,7 @@ use crate::frame::ReceiveNumber;
 use crate::frame::SendNumber;
 use crate::frame::UFrame;
 use asdu::PlainAnswer;
-use asdu::check;
+use asdu::checking;
 use elements::refusals::Refusal;
 
 // What is refused of a frame before its control octets: 1, 2, 3, 4.
@@ -72,7 +72,7 @@ fn read_long(f: &[u8]) -> FrameAnswer
     if laws::octet_at(f, 4) % 2 != 0 {
         return FrameAnswer::Refused(Refusal::BAD_I_CONTROL);
     }
-    let asdu = check::check_asdu(laws::part_from(f, 6));
+    let asdu = checking::check_asdu(laws::part_from(f, 6));
     if !asdu.is_none() {
         return FrameAnswer::Refused(asdu);
     }

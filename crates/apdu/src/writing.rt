@@ -11,7 +11,7 @@ use crate::frame::SendNumber;
 use crate::frame::UFrame;
 use asdu::Asdu;
 use asdu::WriteAnswer;
-use asdu::check;
+use asdu::checking;
 use elements::refusals::Refusal;
 
 fn number_refusal(n: u16) -> Refusal
@@ -105,7 +105,7 @@ pub fn write_i_octets(
     if !number.is_none() {
         return WriteAnswer::Refused(number);
     }
-    let refused = check::check_asdu(asdu);
+    let refused = checking::check_asdu(asdu);
     if !refused.is_none() {
         return WriteAnswer::Refused(refused);
     }

@@ -1,6 +1,6 @@
 // The ASDU of IEC 60870-5-101 within document 01's limits: at most 249 octets, at most 127 objects of one carried type.
 // Reading, writing and plain form stand in crates of their own, asdu_read, asdu_write and asdu_plain.
-pub mod check;
+pub mod checking;
 pub mod header;
 
 use elements::refusals::Refusal;

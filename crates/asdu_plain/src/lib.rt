@@ -4,7 +4,7 @@ ghost use Prim.Native.Nat.{_≤_};
 ghost use Rattle.objects.specs.Kinds.{formOf};
 ghost use Rattle.asdu.specs.Plain.{hasReserved, plainForm, plainObjects, plainAnswer};
 use asdu::PlainAnswer;
-use asdu::check;
+use asdu::checking;
 use asdu::header;
 use asdu::header::Header;
 use asdu::header::HeaderAnswer;
@@ -68,7 +68,7 @@ pub fn plain_asdu(s: &[u8]) -> PlainAnswer
     let HeaderAnswer::Header(h) = answer else {
         return PlainAnswer::Refused(answer.refusal());
     };
-    let r = check::objects_refusal(s, h);
+    let r = checking::objects_refusal(s, h);
     if !r.is_none() {
         return PlainAnswer::Refused(r);
     }

@@ -10,7 +10,7 @@ ghost use Rattle.asdu.specs.Reading.{answerAt, readAsdu};
 use asdu::Answer;
 use asdu::Asdu;
 use asdu::ReadAsdu;
-use asdu::check;
+use asdu::checking;
 use asdu::header;
 use asdu::header::Header;
 use asdu::header::HeaderAnswer;
@@ -111,7 +111,7 @@ pub fn read_asdu(s: &[u8]) -> ReadAsdu
     ensures { λ r. ⌜ r ≡ readAsdu (now (s .entry)) ⌝ }
 {
     let asdu = read_record(s);
-    let refusal = check::check_asdu(s);
+    let refusal = checking::check_asdu(s);
     if !refusal.is_none() {
         return ReadAsdu {
             asdu,

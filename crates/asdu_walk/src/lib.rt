@@ -9,7 +9,7 @@ ghost use Rattle.elements.specs.Refusals.{refusal};
 ghost use Rattle.asdu.specs.Reading.{objectIn};
 ghost use Rattle.asdu_walk.specs.Places.{startOf, foundAt, afterOf, foundNumber};
 ghost use Rattle.asdu_walk.specs.Walks.{walkOf, nextOf, walkAfter};
-use asdu::check;
+use asdu::checking;
 use asdu::header;
 use elements::refusals::Refusal;
 use objects::Object;
@@ -92,7 +92,7 @@ fn object_at(asdu: &[u8], place: Place) -> Found
 pub fn start(asdu: &[u8]) -> Place
     ensures { λ r. ⌜ r ≡ startOf (now (asdu .entry)) ⌝ }
 {
-    let refusal = check::check_asdu(asdu);
+    let refusal = checking::check_asdu(asdu);
     Place { refusal, index: 0 }
 }
 

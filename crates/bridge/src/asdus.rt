@@ -1,6 +1,6 @@
 // ASDUs read, checked, written and told plain: records, and answers as numbers, as bridge_records has them.
 use asdu::Answer;
-use asdu::check;
+use asdu::checking;
 use bridge_records::answers;
 use bridge_records::records;
 
@@ -16,7 +16,7 @@ pub extern "C" fn gg_asdu_read(s: &[u8], record: &mut [u8]) -> u32 {
 
 #[no_mangle]
 pub extern "C" fn gg_asdu_check(s: &[u8]) -> u32 {
-    let refusal = check::check_asdu(s);
+    let refusal = checking::check_asdu(s);
     laws::wide(refusal.0)
 }
 

@@ -1,4 +1,4 @@
--- `asdu::check::check_asdu` meets its contract. Assumes nothing.
+-- `asdu::checking::check_asdu` meets its contract. Assumes nothing.
 use Prim.Native.Nat.{ℕ, _/_, _%_}
 use mathlib.Core.Path.{sym, ap, _∙_}
 use borrow.Author.Needs.{needs}
@@ -9,8 +9,8 @@ use Rattle.elements.proofs.Refused.{none, some}
 use Rattle.asdu.specs.Header.{headerRefusal}
 use Rattle.asdu.specs.Reading.{addressesRefusal}
 use Rattle.asdu.proofs.Checked.{refused-early, checked}
-use Rattle.asdu.proofs.check.check_asdu.Statement.{statement}
-use Rattle.asdu.proofs.check.check_asdu.Tie as tie
+use Rattle.asdu.proofs.checking.check_asdu.Statement.{statement}
+use Rattle.asdu.proofs.checking.check_asdu.Tie as tie
 
 header-refusal-requires : tie.Need-header-refusal-requires
 header-refusal-requires c κs = search needs

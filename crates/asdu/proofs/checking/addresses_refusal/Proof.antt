@@ -1,4 +1,4 @@
--- `asdu::check::addresses_refusal` meets its contract. Assumes nothing.
+-- `asdu::checking::addresses_refusal` meets its contract. Assumes nothing.
 use Prim.Native.Nat.{_+_}
 use native.Mathlib.Omega.{arith}
 use borrow.Author.Tests.{lt-ltb, le-ltb, not-true, not-false}
@@ -6,8 +6,8 @@ use borrow.Author.Needs.{needs}
 use lib.ListN.{drop}
 use Rattle.laws.specs.Numbers.{leOf}
 use Rattle.asdu.specs.Reading.{addressesRefusal}
-use Rattle.asdu.proofs.check.addresses_refusal.Statement.{statement}
-use Rattle.asdu.proofs.check.addresses_refusal.Tie as tie
+use Rattle.asdu.proofs.checking.addresses_refusal.Statement.{statement}
+use Rattle.asdu.proofs.checking.addresses_refusal.Tie as tie
 
 returns : tie.Need-returns
 unfolding addressesRefusal

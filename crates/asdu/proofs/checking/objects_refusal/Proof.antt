@@ -1,11 +1,11 @@
--- `asdu::check::objects_refusal` meets its contract. Assumes nothing.
+-- `asdu::checking::objects_refusal` meets its contract. Assumes nothing.
 use mathlib.Core.Path.{sym, ap, _∙_}
 use borrow.Author.Needs.{needs}
 use Rattle.laws.proofs.Lists.{octets-all}
 use Rattle.elements.specs.Refusals.{refusal}
 use Rattle.asdu.proofs.Walk.{by-addresses}
-use Rattle.asdu.proofs.check.objects_refusal.Statement.{statement}
-use Rattle.asdu.proofs.check.objects_refusal.Tie as tie
+use Rattle.asdu.proofs.checking.objects_refusal.Statement.{statement}
+use Rattle.asdu.proofs.checking.objects_refusal.Tie as tie
 
 addresses-refusal-requires : tie.Need-addresses-refusal-requires
 addresses-refusal-requires c κs = search needs
