@@ -17,9 +17,9 @@ use Rattle.promises.proofs.FrameTells.{frame-tells}
 use Rattle.promises.proofs.FrameAccepts.{frame-accepts}
 use Rattle.promises.proofs.CutFree.{cut-independent, in-place}
 use Rattle.promises.proofs.Cuts.{cuts}
-use Rattle.promises.proofs.Parts.{hands-back}
+use Rattle.promises.proofs.Parts.{hands-back, picks-frames}
 use Rattle.promises.proofs.Demand3.{demand-3}
-use Rattle.promises.proofs.Demand3Runs.{covers, goes-on}
+use Rattle.promises.proofs.Demand3Runs.{covers, goes-on, room-enough}
 use Rattle.promises.proofs.Demand3Shown.{shows}
 use Rattle.promises.proofs.Demand3Reach.{reaches}
 
@@ -33,7 +33,7 @@ pub frame-level : FrameLevel
 frame-level = record { back = frame-reads-back; again = frame-writes-again; tells = frame-tells; accepts = frame-accepts }
 
 pub stream-level : StreamLevel
-stream-level = record { cut = cut-independent; cuts = cuts; uncopied = in-place; part = hands-back }
+stream-level = record { cut = cut-independent; cuts = cuts; uncopied = in-place; part = hands-back; picked = picks-frames }
 
 pub demand-3-level : Demand3Level
-demand-3-level = record { claims = demand-3; covers = covers; goes-on = goes-on; shows = shows; reaches = reaches }
+demand-3-level = record { claims = demand-3; covers = covers; goes-on = goes-on; room = room-enough; shows = shows; reaches = reaches }

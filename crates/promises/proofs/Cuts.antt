@@ -19,7 +19,7 @@ record From (all s : List ℕ) (o : StreamOutcome) : Type 0 where
   whole : AllFrames (o .frames)
   ends : Ends (o .end) all
 
-is-frame : (s : List ℕ) (n : ℕ) → startAnswer s ≡ Whole n → IsFrame (take n s)
+pub is-frame : (s : List ℕ) (n : ℕ) → startAnswer s ≡ Whole n → IsFrame (take n s)
 is-frame s n e =
     let f = frame-of _ _ _ n e in
     let big : 6 ≤ n = omega (arith, f .size, f .shape .least) in

@@ -4,7 +4,7 @@ use mathlib.Core.Path.{_≡_, refl, sym, ap, subst, _∙_}
 use mathlib.Core.Bool.{Bool, true, false}
 use mathlib.Core.List.{List, [], _∷_, _++_, append-assoc}
 use native.Mathlib.Omega.{arith}
-use native.Mathlib.Nat.{add-zero, mod-eq-of-lt}
+use native.Mathlib.Nat.{add-zero, le-refl, mod-eq-of-lt}
 use borrow.Author.Tests.{eqb-true, eqb-false, eq-eqb}
 use lib.ListN.{length, take, drop, getD, replicate, length-append, length-drop, length-replicate}
 use lib.Seq.{sets, take-at, drop-drop, drop-append-le, getD-drop}
@@ -13,6 +13,7 @@ use Rattle.laws.specs.Choice.{pick}
 use Rattle.laws.specs.Lists.{Octets, ring}
 use Rattle.laws.specs.Window.{Confirms, freed}
 use Rattle.laws.specs.Promises.{WindowLaw}
+use Rattle.laws.proofs.Choices.{picked}
 use Rattle.laws.proofs.Lists.{sets-all, getD-tabulate}
 use Rattle.laws.proofs.Window.{window}
 use Rattle.elements.specs.Refusals.{refusal}
@@ -91,6 +92,10 @@ bytes-are o out silent h = by (eqb (o .refused) 0) refl
         (sets out 0 (wire (o .frames))) ≡ wire (o .frames)
     by true e = all
     by false e = unfold wire in sym (ap wire (silent (eqb-false _ _ e)))
+
+written-most : (o : events.Outcome) → linkWritten (answerOf o) ≤ length (wire (o .frames))
+unfolding answerOf
+written-most o = picked (λ (a : LinkAnswer). linkWritten a ≤ length (wire (o .frames))) (eqb (o .refused) 0) (le-refl _) (omega arith)
 
 -- ---- a transcript beside the link by totals and lists
 
@@ -374,14 +379,21 @@ module _ (s : Settings) (start : ℕ) (pool : List ℕ) (past : List Entry) (l :
   unfolding calledOf
   entry-number = number-is (outcomeOf c l between) ∙ alike .refused
 
-  entry-bytes : entryOf c l between .handed ≡ wire (result .frames)
+  size : length (wire (result .frames)) ≤ 4096
+  size =
+      let all = fit s (entryOf c l between) past (k .link) result (k .counted) done new-plain in
+      wire-fits (c .event) (c .now) (k .link) result done (agrees .within) within few all
+
+  pub written-fits : linkWritten (answered c l between .answer) ≤ 4096
+  unfolding calledOf
+  written-fits = let most = written-most (outcomeOf c l between) in omega (arith, size, ap (λ (x : List Frame). length (wire x)) (alike .frames))
+
+  pub entry-bytes : entryOf c l between .handed ≡ wire (result .frames)
   unfolding calledOf
   entry-bytes =
       let fs = alike .frames in
-      let all = fit s (entryOf c l between) past (k .link) result (k .counted) done new-plain in
-      let size = wire-fits (c .event) (c .now) (k .link) result done (agrees .within) within few all in
       let room = passed l (length (c .output)) (length between) (c .now) free .output-room in
-      bytes-are (outcomeOf c l between) (c .output) (λ z. fs ∙ done .silent (λ q. z (alike .refused ∙ q))) (omega (arith, ap (λ (x : List Frame). length (wire x)) fs))
+      bytes-are (outcomeOf c l between) (c .output) (λ z. fs ∙ done .silent (λ q. z (alike .refused ∙ q))) (omega (arith, size, ap (λ (x : List Frame). length (wire x)) fs))
       ∙ ap wire fs
 
   pub next : Known s start pool (entryOf c l between ∷ past) (answered c l between .link) (poolAfter c l between)

@@ -2,36 +2,38 @@
 use Prim.Native.Nat.{ℕ, zero, suc, _+_, _-_, _%_, _≤_}
 use mathlib.Core.Path.{_≡_, refl, sym, ap, subst, _∙_}
 use mathlib.Core.Bool.{Bool, true, false}
-use mathlib.Core.List.{List, [], _∷_}
+use mathlib.Core.List.{List, [], _∷_, append-nil}
 use native.Mathlib.Omega.{arith}
 use native.Mathlib.Numerals.{add-one}
-use borrow.Author.Tests.{le-leb, lt-ltb}
+use borrow.Author.Tests.{le-leb, le-ltb, lt-ltb}
 use lib.ListN.{length, replicate, length-replicate}
 use Rattle.laws.specs.Choice.{pick}
 use Rattle.laws.specs.Lists.{Octets}
 use Rattle.laws.specs.Numbers.{leOctets}
-use Rattle.apdu.specs.Writing.{sOctets}
+use Rattle.apdu.specs.Writing.{iOctets, sOctets}
 use Rattle.link_state.specs.Limits.{soundSettings, callRefusal}
 use Rattle.link_state.specs.Opening.{openRefusal, opened}
 use Rattle.link_state.specs.declared.Settings.{Settings}
 use Rattle.link_state.specs.declared.Status.{Status}
 use Rattle.link_state.specs.declared.Link.{Link}
+use Rattle.link.specs.Frames.{iFrame, octetsOf, wire}
 use Rattle.link.specs.Events.{Event, frame, send}
 use Rattle.link_meaning.specs.Abstract.{Abstract, Progress, fresh, isOpen, freedBy, fits, free, sendOne, timing, setClock, settle, change, sendOut, flush, letting, confirmAll, mustConfirm, finish, accept, stepS, stepFrame, stepPlain, stepSend, step}
 use Rattle.link_meaning.specs.Meaning.{OctetsIn}
 use Rattle.link_meaning.specs.Runs as totals
 use Rattle.link_meaning.proofs.Runs.{runs-agree}
 use Rattle.promises.specs.Demand3.{Call, answered, poolAfter, Entry, entryOf, Run, opening, after, A}
-use Rattle.promises.specs.Demand3Runs.{small, first, Reached}
+use Rattle.promises.specs.Demand3Runs.{small, first, sending, Reached}
 use Rattle.promises.proofs.FrameBack.{s-reads}
-use Rattle.promises.proofs.Demand3.{Known, next, next-link, counted-none}
+use Rattle.promises.proofs.Demand3.{Known, entry-bytes, next, next-link, counted-none}
 use Rattle.promises.proofs.Demand3Runs.{goes-on}
 use Rattle.promises.proofs.Demand3Shown.{first-plain}
 
--- n handed out, m confirmed, none waits, and nothing has ended the link
+-- n handed out, m confirmed, none came, none waits, and nothing has ended the link
 record Idle (n m : ℕ) (a : Abstract) : Type 0 where
   settings : a .settings ≡ small
   sent : a .sent ≡ n
+  received : a .received ≡ 0
   confirmed : a .confirmed ≡ m
   waiting : a .waiting ≡ []
   running : a .status .closed ≡ false
@@ -45,7 +47,7 @@ idle-finish n m more p i = by (mustConfirm (p .link) more)
     by : (b : Bool) → Idle n m (pick b (confirmAll (change (setClock 0) p)) (change (setClock 0) p) .link)
     by true =
         unfold confirmAll settle in
-        record { settings = i .settings; sent = i .sent; confirmed = i .confirmed; waiting = i .waiting; running = i .running; clock = i .clock }
+        record { settings = i .settings; sent = i .sent; received = i .received; confirmed = i .confirmed; waiting = i .waiting; running = i .running; clock = i .clock }
     by false = i
 
 module _ (n : ℕ) (a : Abstract) where
@@ -60,7 +62,18 @@ module _ (n : ℕ) (a : Abstract) where
       (unfold accept in
       idle-finish (n + 1) n false _
       (unfold sendOut sendOne in
-      record { settings = i .settings; sent = ap (λ (x : ℕ). x + 1) s; confirmed = c; waiting = i .waiting; running = i .running; clock = refl }))
+      record { settings = i .settings; sent = ap (λ (x : ℕ). x + 1) s; received = i .received; confirmed = c; waiting = i .waiting; running = i .running; clock = refl }))
+
+  -- with the remainder of n, and nothing else goes out
+  idle-sends : Idle n n a → step (send first) 0 a .frames ≡ iFrame (n % 32768) 0 first ∷ []
+  unfolding step stepSend stepPlain isOpen
+  idle-sends i =
+      let k = ap (λ (s : Settings). s .k) (i .settings) in
+      let s = i .sent in
+      let c = i .confirmed in
+      rw (first-plain, lt-ltb (a .sent - a .confirmed) (a .settings .k) (omega arith))
+      (unfold accept finish mustConfirm sendOut sendOne in
+      rw (le-ltb (a .settings .w) 0 (omega arith), i .sent, i .received))
 
   -- and is confirmed
   abbrev number : ℕ
@@ -88,6 +101,7 @@ module _ (n : ℕ) (a : Abstract) where
       record {
         settings = i .settings;
         sent = i .sent;
+        received = i .received;
         confirmed = (let c = i .confirmed in let d = frees-one i in omega arith);
         waiting = refl;
         running = i .running;
@@ -145,7 +159,7 @@ begins =
       pool = zeros;
       run = opening refl;
       known = record { link = fresh small 0; run = totals.opening refl; counted = counted-none small 0 };
-      idle = unfold fresh in record { settings = refl; sent = refl; confirmed = refl; waiting = refl; running = refl; clock = refl };
+      idle = unfold fresh in record { settings = refl; sent = refl; received = refl; confirmed = refl; waiting = refl; running = refl; clock = refl };
     }
 
 one-more : (n : ℕ) → At n n → At (n + 1) (n + 1)
@@ -160,6 +174,13 @@ at-any : (n : ℕ) → At n n
 at-any zero = begins
 at-any (suc n) = next-at n (at-any n)
 
+sends-next : (n : ℕ) (x : At n n) → entryOf sending (x .link) (x .pool) .handed ≡ iOctets (n % 32768) 0 first
+unfolding wire octetsOf
+sends-next n x =
+    let goes = passes (n + 1) n x (send first) tt (idle-send n (x .known .link) (x .idle)) in
+    entry-bytes small 0 zeros (x .past) (x .link) (x .pool) (x .known) sending tt goes
+    ∙ (ap wire (idle-sends n (x .known .link) (x .idle)) ∙ append-nil (iOctets (n % 32768) 0 first))
+
 pub reaches : (n : ℕ) → Reached n
 reaches n =
     let x = at-any n in
@@ -170,4 +191,5 @@ reaches n =
       run = x .run;
       sent = sym (x .known .counted .sent) ∙ x .idle .sent;
       confirmed = sym (x .known .counted .confirmed) ∙ x .idle .confirmed;
+      next = sends-next n x;
     }

@@ -15,9 +15,9 @@ use Rattle.link.specs.Contracts.{calledOf}
 use Rattle.link_meaning.proofs.Kept.{stays-sound}
 use Rattle.link_meaning.proofs.Runs.{runs-agree}
 use Rattle.promises.specs.Demand3.{Entry, Run, opening, after, outcomeOf}
-use Rattle.promises.specs.Demand3Runs.{Covers, GoesOn}
+use Rattle.promises.specs.Demand3Runs.{Covers, GoesOn, RoomEnough}
 use Rattle.promises.proofs.Demand3Pool.{pool-is}
-use Rattle.promises.proofs.Demand3.{number-is, known}
+use Rattle.promises.proofs.Demand3.{number-is, known, written-fits}
 
 -- ---- what is refused first
 
@@ -73,3 +73,6 @@ goes-on s start pool past l between run room running output now h clock late =
       le-ltb 281474976710655 now late,
       le-ltb now (l .state .clock) clock,
     )
+
+pub room-enough : RoomEnough
+room-enough s start pool past l between run c o free = written-fits s start pool past l between (known s start pool past l between run) c o free

@@ -8,6 +8,7 @@ use lib.Dec.{eqb}
 use lib.ListN.{length, drop, getD}
 use Rattle.laws.specs.Bits.{fields, num}
 use Rattle.laws.specs.Numbers.{leOf, leOctets}
+use Rattle.laws.specs.Choice.{_then_}
 use Rattle.laws.proofs.Choices.{both}
 use Rattle.laws.proofs.Layouts.{fields-octet, num-flag, num-fits}
 use Rattle.asdu.specs.Reading.{readRefusal}
@@ -16,12 +17,12 @@ use Rattle.asdu.specs.declared.Asdu.{Asdu}
 use Rattle.asdu.proofs.Lengths.{asdu-parts}
 use Rattle.apdu.specs.Control.{sendNumber, receiveNumber, numberAt, uLayout, uOf, uOctet}
 use Rattle.apdu.specs.Reading.{outerRefusal, shortAnswer, longAnswer, frameAnswer, asduPart}
-use Rattle.apdu.specs.Writing.{startOctets, iOctets, sOctets, uOctets, numbersRefusal, numberRefusal, iRefusal, sRefusal}
+use Rattle.apdu.specs.Writing.{startOctets, iOctets, sOctets, uOctets, numbersRefusal, numberRefusal, roomRefusal, iRefusal, relayRefusal, sRefusal}
 use Rattle.apdu.specs.declared.frame.UFrame.{UFrame}
 use Rattle.apdu.specs.declared.frame.FrameAnswer.the-variants.{I, S, U}
 use Rattle.asdu.proofs.Passed.{read-sized}
 use Rattle.apdu.proofs.Answers.{i-long, number-small, numbers-small}
-use Rattle.promises.specs.Asdus.{TypedAsdu}
+use Rattle.promises.specs.Asdus.{TypedAsdu, ReadBack}
 use Rattle.promises.specs.Frames.{IBack, FrameReadsBack}
 use Rattle.promises.proofs.ReadBack.{reads-back}
 
@@ -91,14 +92,25 @@ module _ (s r : ℕ) (asdu : List ℕ) where
   unfolding asduPart
   part-is e = rw e rest-is
 
-i-back : (s r : ℕ) (a : Asdu) (room : ℕ) → TypedAsdu a → iRefusal s r a room ≡ 0 → IBack s r a
+carried-back : (s r : ℕ) (asdu : List ℕ) → numbersRefusal s r ≡ 0 → 1 ≤ length asdu → readRefusal asdu ≡ 0 → IBack s r asdu
+carried-back s r asdu h some reads =
+    let (hs, hr) = numbers-small s r h in
+    let answer = i-reads s r asdu hs hr some reads in
+    record { answer = answer; part = part-is s r asdu answer }
+
+i-back : (s r : ℕ) (a : Asdu) (room : ℕ) → TypedAsdu a → iRefusal s r a room ≡ 0 → IBack s r (asduOctets a) × ReadBack a
 unfolding iRefusal
 i-back s r a room typed h =
     let x = both (numbersRefusal s r) (writeRefusal a (room - 6)) h in
-    let (hs, hr) = numbers-small s r (x .0) in
     let back = reads-back a (room - 6) typed (x .1) in
-    let answer = i-reads s r (asduOctets a) hs hr (omega (arith, asdu-parts a)) (back .accepted) in
-    record { answer = answer; part = part-is s r (asduOctets a) answer; back = back }
+    (carried-back s r (asduOctets a) (x .0) (omega (arith, asdu-parts a)) (back .accepted), back)
+
+relay-back : (s r : ℕ) (asdu : List ℕ) (room : ℕ) → relayRefusal s r asdu room ≡ 0 → IBack s r asdu
+unfolding relayRefusal
+relay-back s r asdu room h =
+    let x = both (numbersRefusal s r) (readRefusal asdu then roomRefusal (6 + length asdu) room) h in
+    let reads = both (readRefusal asdu) (roomRefusal (6 + length asdu) room) (x .1) .0 in
+    carried-back s r asdu (x .0) (omega (arith, read-sized asdu reads .0)) reads
 
 -- ---- an S frame
 
@@ -172,4 +184,4 @@ module _ (u : UFrame) where
   u-back = u-reads (uOctet u) u-small (bit 0) ∙ ap U flags
 
 pub frame-reads-back : FrameReadsBack
-frame-reads-back = record { i = i-back; s = s-back; u = u-back }
+frame-reads-back = record { i = i-back; relay = relay-back; s = s-back; u = u-back }

@@ -1,22 +1,27 @@
--- After a step that tells of a frame, picking hands that frame back. Assumes nothing.
+-- What picking hands out is a whole frame or nothing; after a step that tells of a frame it is that frame. Assumes nothing.
 use Prim.Native.Nat.{ℕ, _+_, _<_, _≤_}
-use mathlib.Core.Path.{_≡_, sym, ap, _∙_}
+use mathlib.Core.Path.{_≡_, refl, sym, ap, subst, _∙_}
 use mathlib.Core.List.{List}
 use native.Mathlib.Omega.{arith}
 use native.Mathlib.Decide.{decLt}
 use borrow.Author.Tests.{lt-ltb}
-use lib.ListN.{length, take}
-use Rattle.assembly.specs.Start.{startAnswer}
-use Rattle.assembly.specs.Picking.{pickPartBy, pickAnswer, pickPart}
+use lib.Dec.{ltb, eqb}
+use lib.ListN.{length, take, length-take}
+use lib.Seq.{length-take-le, take-take}
+use Rattle.laws.proofs.Choices.{picked}
+use Rattle.assembly.specs.Start.{startAnswer, carryRefusal}
+use Rattle.assembly.specs.Picking.{fromCarry, fromChunk, pickPartBy, pickAnswer, pickPart}
 use Rattle.assembly.specs.Topping.{onHand}
 use Rattle.assembly.specs.Stepping.{stepMoved, stepCarry}
-use Rattle.assembly.specs.declared.start.StartAnswer.the-variants.{Whole}
+use Rattle.assembly.specs.declared.start.StartAnswer.{StartAnswer}
+use Rattle.assembly.specs.declared.start.StartAnswer.the-variants.{Whole, More, Refused}
 use Rattle.assembly.specs.declared.picking.PickAnswer.{PickAnswer}
 use Rattle.assembly.specs.declared.picking.PickAnswer.the-variants as PickAnswer
 use Rattle.assembly.specs.declared.stepping.StepAnswer.{StepAnswer}
 use Rattle.assembly.proofs.Sights.{frame-of, first-whole, start-short}
 use Rattle.assembly.proofs.Steps.{held-long, pick-by, step-chunk, step-carry, carry-long, holds-frame}
-use Rattle.promises.specs.Streams.{HandsBack}
+use Rattle.promises.specs.Streams.{IsFrame, HandsBack, PickedBy, PicksFrames}
+use Rattle.promises.proofs.Cuts.{is-frame}
 
 part-of : (carry : List ℕ) (held : ℕ) (chunk : List ℕ) (a : PickAnswer) → pickAnswer carry held chunk ≡ a → pickPart carry held chunk ≡ pickPartBy a carry chunk
 unfolding pickPart
@@ -45,3 +50,29 @@ hands-back carry held chunk n room count more e = elim (decLt 0 held) [
       ap (λ (a : StepAnswer). pickPart after (held + stepMoved a) chunk) (step-chunk carry held chunk room count more n z whole)
       ∙ (ap (λ (k : ℕ). pickPart after k chunk) (omega arith) ∙ (part-of after 0 chunk (PickAnswer.Chunk n) picked ∙ ap (take n) (sym same)))
 ]
+
+-- ---- any part
+
+module _ (carry : List ℕ) (held : ℕ) (chunk : List ℕ) where
+  abbrev Told : PickAnswer → Type 0
+  Told a = PickedBy a (pickPartBy a carry chunk)
+
+  from-carry : (a : StartAnswer) → startAnswer (take held carry) ≡ a → Told (fromCarry a)
+  from-carry (Whole n) e =
+      let f = frame-of _ _ _ n e in
+      let same : take n (take held carry) ≡ take n carry = take-take n held carry (omega (arith, f .there, length-take held carry)) in
+      (subst IsFrame same (is-frame (take held carry) n e), ap length (sym same) ∙ length-take-le n (take held carry) (f .there))
+  from-carry More e = refl
+  from-carry (Refused r) e = refl
+
+  from-chunk : (a : StartAnswer) → startAnswer chunk ≡ a → Told (fromChunk a)
+  from-chunk (Whole n) e = (is-frame chunk n e, length-take-le n chunk (frame-of _ _ _ n e .there))
+  from-chunk More e = refl
+  from-chunk (Refused r) e = refl
+
+pub picks-frames : PicksFrames
+unfolding pickAnswer pickPart
+picks-frames carry held chunk =
+    picked (Told carry held chunk) (eqb (carryRefusal (length carry) held) 0)
+    (picked (Told carry held chunk) (ltb 0 held) (from-carry carry held chunk (startAnswer (take held carry)) refl) (from-chunk carry held chunk (startAnswer chunk) refl))
+    refl

@@ -1,14 +1,17 @@
 -- Demand 3 is not met by default: there are runs, of any length, and what they show.
-use Prim.Native.Nat.{ℕ, _≤_}
+use Prim.Native.Nat.{ℕ, _%_, _≤_}
 use mathlib.Core.Path.{_≡_}
 use mathlib.Core.Bool.{false}
 use mathlib.Core.List.{List, [], _∷_}
 use lib.ListN.{length, replicate}
+use Rattle.apdu.specs.Writing.{iOctets}
 use Rattle.link_state.specs.Limits.{callRefusal}
 use Rattle.link_state.specs.declared.Settings.{Settings}
 use Rattle.link_state.specs.declared.Link.{Link}
 use Rattle.link.specs.Events.{frame, send}
-use Rattle.promises.specs.Demand3.{Call, Entry, entryOf, Run, S, sendTimes, haveLeft, R, A, Demand3}
+use Rattle.link.specs.Contracts.{linkWritten}
+use Rattle.link_meaning.specs.Meaning.{OctetsIn}
+use Rattle.promises.specs.Demand3.{Call, answered, Entry, entryOf, Run, S, sendTimes, haveLeft, R, A, Demand3}
 
 -- ---- which calls make a run
 
@@ -23,6 +26,11 @@ abbrev pub GoesOn : Type 0
 GoesOn = (s : Settings) (start : ℕ) (pool : List ℕ) (past : List Entry) (l : Link) (between : List ℕ) → Run s start pool past l between
     → 3984 ≤ length pool → l .state .status .closed ≡ false → (output now : ℕ) → 4096 ≤ output → l .state .clock ≤ now → now ≤ 281474976710655
     → callRefusal l output (length between) now ≡ 0
+
+-- What a call of a run writes is at most 4,096 bytes: an output that the check lets pass is always enough.
+abbrev pub RoomEnough : Type 0
+RoomEnough = (s : Settings) (start : ℕ) (pool : List ℕ) (past : List Entry) (l : Link) (between : List ℕ) → Run s start pool past l between
+    → (c : Call) → OctetsIn (c .event) → callRefusal l (length (c .output)) (length between) (c .now) ≡ 0 → linkWritten (answered c l between .answer) ≤ 4096
 
 -- ---- a run that is shown
 
@@ -68,8 +76,13 @@ pub record Shown : Type 0 where
 
 -- ---- runs of any length
 
--- For every n there is a run that hands out n I frames and has each of them confirmed. So runs have any length, and the totals
--- go on where the numbers begin again: the 32,769th frame goes out with the number 0.
+-- a call that sends
+abbrev pub sending : Call
+sending = record { event = send first; output = replicate 4096 0; now = 0 }
+
+-- For every n there is a run that hands out n I frames and has each of them confirmed, and the next ASDU then goes out with the
+-- remainder of n. So runs have any length, and the totals go on where the numbers begin again: with n 32,767 the number is
+-- 32,767, and with n 32,768 it is 0.
 pub record Reached (n : ℕ) : Type 0 where
   pub past : List Entry
   pub link : Link
@@ -77,6 +90,7 @@ pub record Reached (n : ℕ) : Type 0 where
   pub run : Run small 0 (replicate 3984 0) past link pool
   pub sent : S past ≡ n
   pub confirmed : A past ≡ n
+  pub next : entryOf sending link pool .handed ≡ iOctets (n % 32768) 0 first
 
 -- ---- all of it
 
@@ -84,5 +98,6 @@ pub record Demand3Level : Type 0 where
   pub claims : Demand3
   pub covers : Covers
   pub goes-on : GoesOn
+  pub room : RoomEnough
   pub shows : Shown
   pub reaches : (n : ℕ) → Reached n

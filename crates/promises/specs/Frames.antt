@@ -15,7 +15,7 @@ use Rattle.asdu.specs.declared.Asdu.{Asdu}
 use Rattle.asdu.specs.declared.PlainAnswer.the-variants as PlainAnswer
 use Rattle.apdu.specs.Control.{sendNumber, receiveNumber}
 use Rattle.apdu.specs.Reading.{frameAnswer, frameNumber, asduPart}
-use Rattle.apdu.specs.Writing.{startOctets, iOctets, sOctets, uOctets, iRefusal, sRefusal, roomRefusal}
+use Rattle.apdu.specs.Writing.{startOctets, iOctets, sOctets, uOctets, iRefusal, relayRefusal, sRefusal, roomRefusal}
 use Rattle.apdu.specs.Plain.{plainFrame}
 use Rattle.apdu.specs.declared.frame.UFrame.{UFrame}
 use Rattle.apdu.specs.declared.frame.FrameAnswer.{FrameAnswer}
@@ -24,15 +24,16 @@ use Rattle.promises.specs.Asdus.{TypedAsdu, ReadBack, asduForm}
 
 -- ---- reads back
 
--- an I frame that the writer accepts reads with the same numbers, and its part is the ASDU that reads back as the same record
-pub record IBack (s r : ℕ) (a : Asdu) : Type 0 where
-  pub answer : frameAnswer (iOctets s r (asduOctets a)) ≡ I (sendNumber s) (receiveNumber r)
-  pub part : asduPart (iOctets s r (asduOctets a)) ≡ asduOctets a
-  pub back : ReadBack a
+-- an I frame reads with the same numbers, and its part is the ASDU
+pub record IBack (s r : ℕ) (asdu : List ℕ) : Type 0 where
+  pub answer : frameAnswer (iOctets s r asdu) ≡ I (sendNumber s) (receiveNumber r)
+  pub part : asduPart (iOctets s r asdu) ≡ asdu
 
--- "What the writer accepts reads back as the same record": I, S and U. A U frame has nothing that could be refused but its room
+-- "What the writer accepts reads back as the same record": I from a record, whose ASDU reads back as it, and I from the octets of
+-- an ASDU; S and U. A U frame has nothing that could be refused but its room
 pub record FrameReadsBack : Type 0 where
-  pub i : (s r : ℕ) (a : Asdu) (room : ℕ) → TypedAsdu a → iRefusal s r a room ≡ 0 → IBack s r a
+  pub i : (s r : ℕ) (a : Asdu) (room : ℕ) → TypedAsdu a → iRefusal s r a room ≡ 0 → IBack s r (asduOctets a) × ReadBack a
+  pub relay : (s r : ℕ) (asdu : List ℕ) (room : ℕ) → relayRefusal s r asdu room ≡ 0 → IBack s r asdu
   pub s : (r room : ℕ) → sRefusal r room ≡ 0 → frameAnswer (sOctets r) ≡ S (receiveNumber r)
   pub u : (u : UFrame) → frameAnswer (uOctets u) ≡ U u
 

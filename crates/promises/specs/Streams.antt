@@ -5,10 +5,12 @@ use mathlib.Core.List.{List, [], _∷_, _++_}
 use lib.ListN.{length, getD, take, drop}
 use Rattle.elements.specs.Refusals.{refusal}
 use Rattle.assembly.specs.Start.{startAnswer}
-use Rattle.assembly.specs.Picking.{pickPart}
+use Rattle.assembly.specs.Picking.{pickAnswer, pickPart}
 use Rattle.assembly.specs.Stepping.{stepAnswer, stepMoved, stepCarry}
 use Rattle.assembly.specs.Streams.{End, rest, refused, StreamOutcome, noFrames, handed, stream, joined}
 use Rattle.assembly.specs.declared.start.StartAnswer.the-variants as StartAnswer
+use Rattle.assembly.specs.declared.picking.PickAnswer.{PickAnswer}
+use Rattle.assembly.specs.declared.picking.PickAnswer.the-variants as PickAnswer
 use Rattle.assembly.specs.declared.stepping.StepAnswer.{StepAnswer}
 use Rattle.assembly.specs.declared.stepping.StepAnswer.the-variants.{Chunk, Carry, More, Refused}
 
@@ -92,6 +94,17 @@ HandsBack = (carry : List ℕ) (held : ℕ) (chunk : List ℕ) (n : ℕ)
     → 255 ≤ length carry → held ≤ 255 → startAnswer (take held carry) ≡ StartAnswer.More → startAnswer (take held carry ++ chunk) ≡ StartAnswer.Whole n
     → pickPart (stepCarry carry held chunk) (held + stepMoved (stepAnswer carry held chunk)) chunk ≡ take n (take held carry ++ chunk)
 
+-- "its length is 2 + L": whatever the carry holds, the part that picking hands out is a whole frame, as long as the answer tells;
+-- "more and a refusal have the empty part"
+abbrev pub PickedBy : PickAnswer → List ℕ → Type 0
+PickedBy (PickAnswer.Carry n) part = IsFrame part × (length part ≡ n)
+PickedBy (PickAnswer.Chunk n) part = IsFrame part × (length part ≡ n)
+PickedBy PickAnswer.More part = part ≡ []
+PickedBy (PickAnswer.Refused r) part = part ≡ []
+
+abbrev pub PicksFrames : Type 0
+PicksFrames = (carry : List ℕ) (held : ℕ) (chunk : List ℕ) → PickedBy (pickAnswer carry held chunk) (pickPart carry held chunk)
+
 -- ---- all of it
 
 pub record StreamLevel : Type 0 where
@@ -99,3 +112,4 @@ pub record StreamLevel : Type 0 where
   pub cuts : (s : List ℕ) → Cuts s
   pub uncopied : InPlace
   pub part : HandsBack
+  pub picked : PicksFrames
