@@ -143,7 +143,8 @@ impl Link {
         Ok(Link { cells: Cells(cells), pool: [UNTOUCHED; POOL_SIZE] })
     }
 
-    fn call(&mut self, now: u64, call: impl FnOnce(Lent) -> u32) -> Seen {
+    /// A call that brings this ASDU, if any.
+    fn call(&mut self, asdu: &[u8], now: u64, call: impl FnOnce(Lent) -> u32) -> Seen {
         let (before, pool_before) = (self.cells, self.pool);
         let mut out = [UNTOUCHED; OUTPUT_SIZE];
         let number = call(Lent {
@@ -153,7 +154,7 @@ impl Link {
         });
         let written = self.cells.at(record::WRITTEN) as usize;
         assert!(out[written..].iter().all(|&octet| octet == UNTOUCHED), "past what was written");
-        self.see_pool(&before, &pool_before);
+        self.see_pool(&before, pool_before, asdu);
         self.see_record(&before, number, now);
         Seen {
             written: out[..written].to_vec(),
@@ -164,14 +165,13 @@ impl Link {
         }
     }
 
-    /// The pool changes only where one more waits, and there only in its slot.
-    fn see_pool(&self, before: &Cells, pool_before: &[u8; POOL_SIZE]) {
-        let waits = self.cells.at(record::WAITING) > before.at(record::WAITING);
-        let count = before.at(record::PLACE) + before.at(record::WAITING);
-        let slot = count as usize % 16 * SLOT_SIZE;
-        let slot = if waits { slot..slot + SLOT_SIZE } else { 0..0 };
-        let same = |at: &usize| self.pool[*at] == pool_before[*at] || slot.contains(at);
-        assert!(self.pool == *pool_before || (0..POOL_SIZE).all(|at| same(&at)), "the pool");
+    /// The pool is as it was, but where one more waits: there the ASDU stands at the start of its slot.
+    fn see_pool(&self, before: &Cells, mut expected: [u8; POOL_SIZE], asdu: &[u8]) {
+        if self.cells.at(record::WAITING) > before.at(record::WAITING) {
+            let count = before.at(record::PLACE) + before.at(record::WAITING);
+            expected[count as usize % 16 * SLOT_SIZE..][..asdu.len()].copy_from_slice(asdu);
+        }
+        assert!(self.pool == expected, "the pool");
     }
 
     /// A refusal changes nothing but that it may close the link; an accepted call takes the clock.
@@ -227,7 +227,7 @@ impl Link {
     }
 
     pub fn receive(&mut self, frame: &[u8], more: bool, now: u64) -> Seen {
-        self.call(now, |Lent { list, pool, out }| unsafe {
+        self.call(&[], now, |Lent { list, pool, out }| unsafe {
             let (frame, len) = (frame.as_ptr(), frame.len());
             exported::gg_link_receive(
                 list.0, list.1, pool.0, pool.1, out.0, out.1, frame, len, more, now,
@@ -236,14 +236,14 @@ impl Link {
     }
 
     pub fn send(&mut self, asdu: &[u8], now: u64) -> Seen {
-        self.call(now, |Lent { list, pool, out }| unsafe {
+        self.call(asdu, now, |Lent { list, pool, out }| unsafe {
             let (asdu, len) = (asdu.as_ptr(), asdu.len());
             exported::gg_link_send(list.0, list.1, pool.0, pool.1, out.0, out.1, asdu, len, now)
         })
     }
 
     fn timed(&mut self, now: u64, event: exported::Timed) -> Seen {
-        self.call(now, |Lent { list, pool, out }| unsafe {
+        self.call(&[], now, |Lent { list, pool, out }| unsafe {
             event(list.0, list.1, pool.0, pool.1, out.0, out.1, now)
         })
     }
