@@ -5,11 +5,13 @@ ghost use Rattle.apdu.specs.Control.{uOf, uOctet};
 ghost use Rattle.apdu.specs.Reading.{frameNumber};
 use elements::refusals::Refusal;
 
-// First octet, greatest length L, and octets before an ASDU.
+// The first octet.
 pub const START: u8 = 0x68;
 
+// The greatest L.
 pub const MAX_LENGTH: u8 = 253;
 
+// Octets before the ASDU.
 pub const ASDU_START: usize = 6;
 
 // Send and receive number, each a type of its own, so that they cannot be mixed.

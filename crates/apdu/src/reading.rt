@@ -72,9 +72,9 @@ fn read_long(f: &[u8]) -> FrameAnswer
     if laws::octet_at(f, 4) % 2 != 0 {
         return FrameAnswer::Refused(Refusal::BAD_I_CONTROL);
     }
-    let asdu = checking::check_asdu(laws::part_from(f, 6));
-    if !asdu.is_none() {
-        return FrameAnswer::Refused(asdu);
+    let refused = checking::check_asdu(laws::part_from(f, 6));
+    if !refused.is_none() {
+        return FrameAnswer::Refused(refused);
     }
     FrameAnswer::I(SendNumber(number_at(f, 2)), ReceiveNumber(number_at(f, 4)))
 }

@@ -91,7 +91,7 @@ pub fn write_i(send: SendNumber, receive: ReceiveNumber, asdu: Asdu, out: &mut [
     WriteAnswer::Octets(6 + n)
 }
 
-// An I frame from an ASDU's octets, as the link has them.
+// An I frame from an ASDU's octets, checked first. The link checks what it takes, and puts its frames by `put_start`.
 pub fn write_i_octets(
     send: SendNumber,
     receive: ReceiveNumber,

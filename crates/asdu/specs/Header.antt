@@ -25,10 +25,11 @@ countLayout = 7 at 0 ∷ 1 at 7 ∷ []
 abbrev pub causeLayout : Layout
 causeLayout = 6 at 0 ∷ 1 at 6 ∷ 1 at 7 ∷ []
 
--- the causes of transmission that are taken: 1 to 13, 20 to 41, 44 to 47
+-- c is from a to b
 abbrev pub between : ℕ → ℕ → ℕ → Bool
 between a b c = leb a c && leb c b
 
+-- the causes of transmission that are taken: 1 to 13, 20 to 41, 44 to 47
 unfoldable pub causeListed : ℕ → Bool
 causeListed c = between 1 13 c || (between 20 41 c || between 44 47 c)
 

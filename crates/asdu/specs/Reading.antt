@@ -52,24 +52,27 @@ addressesRefusal q n s = pick (q && ltb 16777216 (leOf 3 (drop 6 s) + n)) wrongA
 abbrev pub objectsIn : Header → List ℕ → List Object
 objectsIn h s = tabulate (objectAt h s) 0 (h .count)
 
--- the refusal of reading, 0 where there is none
+-- by the header's answer
 abbrev pub refusalBy : HeaderAnswer → List ℕ → ℕ
 refusalBy (HeaderAnswer.Refused r) s = r .0
 refusalBy (HeaderAnswer.Header h) s = objectsRefusal h s
 
+-- the refusal of reading, 0 where there is none
 unfoldable pub readRefusal : List ℕ → ℕ
 readRefusal s = refusalBy (headerAnswer s) s
 
--- the record, or all 0 and clear beside the refusal
+-- once the header is read: the record, or what its objects refuse
 unfoldable pub readBody : Header → List ℕ → ReadAsdu
 readBody h s =
     pick (eqb (objectsRefusal h s) 0)
     (record { asdu = asduOf h (filled (objectsIn h s)); answer = Answer.Accepted })
     (refusedWith (objectsRefusal h s))
 
+-- by the header's answer
 abbrev pub readBy : HeaderAnswer → List ℕ → ReadAsdu
 readBy (HeaderAnswer.Refused r) s = refusedWith (r .0)
 readBy (HeaderAnswer.Header h) s = readBody h s
 
+-- the record, or all 0 and clear beside the refusal
 unfoldable pub readAsdu : List ℕ → ReadAsdu
 readAsdu s = readBy (headerAnswer s) s

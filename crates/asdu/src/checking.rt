@@ -14,6 +14,7 @@ fn addresses_refusal(s: &[u8], sequence: bool, count: usize) -> Refusal
     if !sequence {
         return Refusal::NONE;
     }
+    // More than any count that is read, so that the sum below fits 32 bits.
     if 16777216 < count {
         return Refusal::WRONG_ADDRESS;
     }

@@ -8,13 +8,16 @@ use objects::kinds;
 use objects::kinds::Kind;
 use objects::kinds::KindAnswer;
 
-// Octets of the header, and of an ASDU at most.
+// Octets of the header.
 pub const HEADER_SIZE: usize = 6;
 
+// Octets of an object's address.
 pub const ADDRESS_SIZE: usize = 3;
 
+// Octets of an ASDU at most.
 pub const MAX_SIZE: usize = 249;
 
+// The count has seven bits.
 pub const MAX_OBJECTS: usize = 127;
 
 pub struct Header {

@@ -1,5 +1,5 @@
 // The ASDU of IEC 60870-5-101 within document 01's limits: at most 249 octets, at most 127 objects of one carried type.
-// Reading, writing and plain form stand in crates of their own, asdu_read, asdu_write and asdu_plain.
+// Reading, writing, plain form and walking stand in crates of their own: asdu_read, asdu_write, asdu_plain and asdu_walk.
 pub mod checking;
 pub mod header;
 
@@ -30,13 +30,13 @@ pub struct ReadAsdu {
     pub answer: Answer,
 }
 
-// What writing answers.
+// How many octets were written, or why none.
 pub enum WriteAnswer {
     Octets(usize),
     Refused(Refusal),
 }
 
-// Whether writing an ASDU's reading gives the same octets, or some carry reserved bits, or it does not read.
+// Whether writing the reading of an ASDU or a frame gives the same octets, or some have reserved bits set, or it does not read.
 pub enum PlainAnswer {
     Plain,
     Reserved,

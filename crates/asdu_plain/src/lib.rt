@@ -10,7 +10,7 @@ use asdu::header::Header;
 use asdu::header::HeaderAnswer;
 use objects::kinds::Kind;
 
-// Whether a kind's elements have reserved bits at all.
+// Whether a kind's elements have reserved bits at all: if not, no element is looked at.
 fn has_reserved(kind: Kind) -> bool
     ensures { λ r. ⌜ r ≡ hasReserved kind ⌝ }
 {

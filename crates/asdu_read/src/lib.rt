@@ -54,7 +54,7 @@ fn address_at(s: &[u8], sequence: bool, i: usize, at: usize) -> u32
     laws::le3(s, 6 + at)
 }
 
-// In both layouts the element of object i stands as many steps after the ninth octet.
+// In both layouts element 0 begins at octet 9, after the header and the first address, and element i comes i steps later.
 fn object_answer(s: &[u8], h: Header, i: usize) -> ObjectAnswer
     requires { ⌜ i ≤ 127 ⌝ }
     ensures { λ r. ⌜ r ≡ answerAt h (now (s .entry)) i ⌝ }

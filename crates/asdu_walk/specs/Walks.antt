@@ -1,4 +1,4 @@
--- The same of a walk that keeps the ASDU beside its place.
+-- A walk that keeps the ASDU and a place: its start, what it finds, the walk after it.
 use Prim.Native.Nat.{ℕ}
 use mathlib.Core.List.{List}
 use denote.Ref.{RefT, now}

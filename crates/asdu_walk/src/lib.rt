@@ -59,7 +59,7 @@ fn address_at(s: &[u8], sequence: bool, i: u8, at: usize) -> u32
     laws::le3(s, 6 + at)
 }
 
-// In both layouts the element of object i stands as many steps after the ninth octet.
+// In both layouts element 0 begins at octet 9, after the header and the first address, and element i comes i steps later.
 fn object_in(s: &[u8], kind: Kind, sequence: bool, i: u8) -> Object
     ensures { λ r. ⌜ r ≡ objectIn kind sequence (now (s .entry)) i ⌝ }
 {

@@ -37,7 +37,8 @@ fn shape_refusal(kind: Kind, sequence: bool, n: usize) -> Refusal
     Refusal::NONE
 }
 
-// The first object of a record, whose address is the first: no index to hold it to.
+// The first object of a record, whose address is the first: no index to hold it to. It says again what `object_refusal` says,
+// which goes into the loop only if it is called once (docs/DECISIONS.md, decision 39).
 fn first_refusal(kind: Kind, object: Object) -> Refusal
     ensures { λ r. ⌜ r ≡ refusal (objectRefusal kind false 0 0 object) ⌝ }
 {

@@ -11,9 +11,10 @@ pub const MIN_LENGTH: u8 = 4;
 
 pub const MAX_LENGTH: u8 = 253;
 
-// Bytes before those that L counts, and in the longest frame.
+// Bytes before those that L counts.
 pub const HEADER_SIZE: usize = 2;
 
+// Bytes of the longest frame.
 pub const MAX_SIZE: usize = 255;
 
 // With fewer bytes on hand nothing is refused.

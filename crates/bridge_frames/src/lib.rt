@@ -10,7 +10,6 @@ use apdu::writing;
 use asdu::WriteAnswer;
 use bridge_records::answers;
 use bridge_records::records;
-use test_text::text;
 
 // The fields are written as far as `fields` reaches, and not beside a refusal.
 #[no_mangle]
@@ -31,7 +30,7 @@ pub extern "C" fn gg_frame_read(f: &[u8], fields: &mut [u8]) -> u32 {
 #[no_mangle]
 pub extern "C" fn gg_frame_asdu(f: &[u8], out: &mut [u8]) -> u32 {
     let part = reading::asdu_of(f);
-    text::put_text(out, 0, part);
+    laws::put_octets(out, 0, part);
     (part.len() % 0x10000) as u32
 }
 

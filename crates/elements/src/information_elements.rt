@@ -142,7 +142,7 @@ pub struct Vti {
 }
 
 // Seven bits as a signed number: bit 6 is the sign, so it is copied to bit 7 first.
-fn step_of(byte: u8) -> i8
+fn step_position(byte: u8) -> i8
     ensures { λ r. ⌜ r ≡ stepPosition byte ⌝ }
 {
     let bits = byte % 128;
@@ -158,7 +158,7 @@ impl Vti {
     {
         let qds = Qds::from_byte(second);
         Vti {
-            value: step_of(first),
+            value: step_position(first),
             transient: first / 128 % 2 == 1,
             qds,
         }

@@ -27,7 +27,7 @@ pub fn bit(b: bool) -> u8
     b as u8
 }
 
-// What `size` has above `at`, and at most so many.
+// How many octets there are from place `at` of `size` on, and at most `most`.
 pub fn up_to(size: usize, at: usize, most: usize) -> usize
     ensures { λ r. ⌜ r ≡ min (size - at) most ⌝ }
 {

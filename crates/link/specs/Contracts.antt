@@ -81,11 +81,12 @@ pub record Makes (g : Making) (at : ℕ) (out : List ℕ) (r : Made) (out′ : L
   pub end : r .end ≡ at + length (wire (g .frames))
   pub octets : out′ ≡ sets out at (wire (g .frames))
 
+-- the same, with the ring lent
 pub record HandsOut (g : Making) (at : ℕ) (out : List ℕ) (r : Made) (times′ out′ : List ℕ) : Type 0 where
   pub makes : Makes g at out r out′
   pub ring : times′ ≡ g .times
 
--- an event has done what its outcome says: with the ring lent, and with the pool lent too
+-- an event has done what its outcome says; then with the ring lent; then with the pool lent too
 pub record Answers (o : Outcome) (out : List ℕ) (r : Step) (out′ : List ℕ) : Type 0 where
   pub step : r ≡ stepFor o
   pub octets : out′ ≡ sets out 0 (wire (o .frames))
@@ -151,7 +152,7 @@ pub record CanFlush (s : State) (n places poolLen outLen : ℕ) : Type 0 where
   pub place-high : s .queue .place ≤ 15
   pub lengths-high : (i : ℕ) → i < n → getD (s .queue .lengths) ((s .queue .place + i) % 16) 0 ≤ 249
 
--- a call that was not refused under 19 to 24
+-- what steps use of a call that was not refused under 19 to 24
 pub record Open (s : State) (places poolLen outLen now : ℕ) : Type 0 where
   pub calm : Calm s outLen now
   pub pool-room : 3984 ≤ poolLen

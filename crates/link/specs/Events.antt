@@ -67,11 +67,12 @@ unfoldable pub onS : ℕ → State → List ℕ → List ℕ → Bool → ℕ �
 onS number s times pool more now =
     sFreeing (acknowledged (s .window .next .0) (s .window .held) number) s times pool more now
 
--- "I: 28, then 27, free the confirmed prefix, receive number and unconfirmed count up by 1, send waiting ASDUs while the
--- window is open, set t2 if unset"
+-- receive number and unconfirmed count up by 1
 unfoldable pub received : State → State
 received s = withReceive s (record { next = receiveNumber ((s .receive .next .0 + 1) % 32768); unconfirmed = s .receive .unconfirmed + 1 })
 
+-- "I: 28, then 27, free the confirmed prefix, receive number and unconfirmed count up by 1, send waiting ASDUs while the
+-- window is open, set t2 if unset"
 unfoldable pub iFreeing : AckAnswer → State → List ℕ → List ℕ → Bool → ℕ → Outcome
 iFreeing (AckAnswer.Frees d) s times pool more now =
     accepting true pool (ending more now (become (λ (m : State). setT3 now (startT2 now m)) (release d now (received s) times pool)))
@@ -84,8 +85,7 @@ onI sent number s times pool more now =
     (iFreeing (acknowledged (s .window .next .0) (s .window .held) number) s times pool more now)
     (closing wrongSendNumber s times pool)
 
--- "test act writes test con; test con sets open tests to 0 and unsets t1-U; stop act writes stop con and ends the link;
--- stop con ends it; anything else 29"
+-- none open, t1 of U frames unset
 abbrev pub testsAnswered : State → State
 testsAnswered s = withTimers s (record { t1u = unset; t2 = s .timers .t2; t3 = s .timers .t3; tests = 0 })
 
@@ -99,7 +99,8 @@ testActed s times pool more now = accepting false pool (ending more now (become 
 unfoldable pub testConfirmed : State → List ℕ → List ℕ → Bool → ℕ → Outcome
 testConfirmed s times pool more now = accepting false pool (ending more now (become (λ (m : State). setT3 now (testsAnswered m)) (start s times)))
 
--- exactly one of the four is answered
+-- "test act writes test con; test con sets open tests to 0 and unsets t1-U; stop act writes stop con and ends the link;
+-- stop con ends it; anything else 29": exactly one of the four is answered
 unfoldable pub onU : UFrame → State → List ℕ → List ℕ → Bool → ℕ → Outcome
 onU u s times pool more now =
     pick (eqb (uOctet u) testAct) (testActed s times pool more now)

@@ -28,7 +28,7 @@ use Rattle.link.specs.Frames.{Frame, iFrame, sFrame, uFrame, stopAct, stopCon, 
 use Rattle.link.specs.Events.{Event, frame, send, stop, test, tick, isDue}
 use Rattle.link_meaning.specs.Abstract.{Abstract, Progress, Result, onWire, isOpen, fits, freedBy, free, count, sendOne, queue, timing, settle, setClock, ended, begin, change, add, sendOut, flush, letting, confirmAll, testOut, mustConfirm, finish, accept, refuse, close, outstanding, t1uFrom, t2From, t3From, testFrom, testAnswered, stopLink, stepS, stepI, stepU, stepFrame, stepPlain, stepSend, stepStop, manyOpen, stepTest, tickNumber, tickT2, tickT3, stepTick, step}
 use Rattle.link_meaning.specs.Runs.{Within}
-use Rattle.link_meaning.specs.Effects.{asdusOf, Numbered, tellsR, others, freesBy, countsBy, frees, counts, takes, Effect, HasEffect, SomeFits, AcceptsExactly}
+use Rattle.link_meaning.specs.Effects.{asdusOf, NumberedFrames, tellsR, others, freesBy, countsBy, frees, counts, takes, Effect, HasEffect, SomeFits, AcceptsExactly}
 
 -- ---- frames in a row
 
@@ -39,11 +39,11 @@ asdus-append (iFrame s r x ∷ fs) gs = ap (λ (l : List (List ℕ)). x ∷ l) (
 asdus-append (sFrame r ∷ fs) gs = asdus-append fs gs
 asdus-append (uFrame u ∷ fs) gs = asdus-append fs gs
 
-pub numbered-append : (s r : ℕ) (fs gs : List Frame) → Numbered s r fs → Numbered (s + length (asdusOf fs)) r gs → Numbered s r (fs ++ gs)
-unfolding Numbered asdusOf
-numbered-append s r [] gs h k = subst (λ (n : ℕ). Numbered n r gs) (add-zero s) k
+pub numbered-append : (s r : ℕ) (fs gs : List Frame) → NumberedFrames s r fs → NumberedFrames (s + length (asdusOf fs)) r gs → NumberedFrames s r (fs ++ gs)
+unfolding NumberedFrames asdusOf
+numbered-append s r [] gs h k = subst (λ (n : ℕ). NumberedFrames n r gs) (add-zero s) k
 numbered-append s r (iFrame a b x ∷ fs) gs h k =
-    (h .0, h .1, numbered-append (s + 1) r fs gs (h .2) (subst (λ (n : ℕ). Numbered n r gs) (omega arith) k))
+    (h .0, h .1, numbered-append (s + 1) r fs gs (h .2) (subst (λ (n : ℕ). NumberedFrames n r gs) (omega arith) k))
 numbered-append s r (sFrame b ∷ fs) gs h k = (h .0, numbered-append s r fs gs (h .1) k)
 numbered-append s r (uFrame u ∷ fs) gs h k = numbered-append s r fs gs h k
 
@@ -88,7 +88,7 @@ record Grows (a : Abstract) (now d c u : ℕ) (ws : List (List ℕ)) (p : Progre
   confirmed : p .link .confirmed ≡ a .confirmed + d
   times : p .link .times ≡ drop d (a .times) ++ replicate (length (asdusOf (p .frames))) now
   order : asdusOf (p .frames) ++ p .link .waiting ≡ ws
-  numbers : Numbered (a .sent) (a .received + c) (p .frames)
+  numbers : NumberedFrames (a .sent) (a .received + c) (p .frames)
   unconfirmed : p .link .unconfirmed ≡ pick (tellsR (p .frames)) 0 (a .unconfirmed + c)
   settings : p .link .settings ≡ a .settings
   few : others (p .frames) ≤ u + num (tellsR (p .frames))
@@ -110,7 +110,7 @@ module _ (a : Abstract) (now d c : ℕ) {u : ℕ} where
       }
 
   -- a frame that carries no ASDU, and a link that changes in none but the count
-  grows-add : (v : ℕ) (ws : List (List ℕ)) (f : Frame) (p : Progress) (b : Abstract) → asdusOf (f ∷ []) ≡ [] → ((s : ℕ) → Numbered s (a .received + c) (f ∷ []))
+  grows-add : (v : ℕ) (ws : List (List ℕ)) (f : Frame) (p : Progress) (b : Abstract) → asdusOf (f ∷ []) ≡ [] → ((s : ℕ) → NumberedFrames s (a .received + c) (f ∷ []))
       → b .sent ≡ p .link .sent → b .received ≡ p .link .received → b .confirmed ≡ p .link .confirmed → b .times ≡ p .link .times → b .waiting ≡ p .link .waiting
       → b .settings ≡ p .link .settings → b .unconfirmed ≡ pick (tellsR (p .frames ++ (f ∷ []))) 0 (a .unconfirmed + c)
       → others (p .frames) + 1 ≤ v + num (tellsR (p .frames ++ (f ∷ []))) → others (f ∷ []) ≡ 1 → Grows a now d c u ws p
@@ -146,7 +146,7 @@ module _ (a : Abstract) (now d c : ℕ) {u : ℕ} where
         times = rw (long, ← replicate-append-replicate (length (asdusOf (p .frames))) 1 now, g .times) (append-assoc (drop d (a .times)) _ _);
         order = rw same (append-assoc (asdusOf (p .frames)) (x ∷ []) rest ∙ e);
         numbers = numbered-append (a .sent) (a .received + c) (p .frames) (f ∷ []) (g .numbers)
-            (unfold Numbered in (ap onWire (g .sent), ap onWire (g .received), tt));
+            (unfold NumberedFrames in (ap onWire (g .sent), ap onWire (g .received), tt));
         unconfirmed = sym (ap (λ (b : Bool). pick b 0 (a .unconfirmed + c)) tells);
         settings = g .settings;
         few =
@@ -191,7 +191,7 @@ module _ (a : Abstract) (now d c : ℕ) {u : ℕ} where
   grows-clock ws p g = grows-change ws p _ refl refl refl refl refl refl refl g
 
   grows-u : (ws : List (List ℕ)) (f : UFrame) (p : Progress) → Grows a now d c u ws p → Grows a now d c (u + 1) ws (add (uFrame f) p)
-  unfolding asdusOf Numbered others
+  unfolding asdusOf NumberedFrames others
   grows-u ws f p g =
       let few = g .few in
       grows-add (u + 1) ws (uFrame f) p (p .link) refl (λ s. tt) refl refl refl refl refl refl
@@ -200,7 +200,7 @@ module _ (a : Abstract) (now d c : ℕ) {u : ℕ} where
 
   -- an S frame, where none told R yet
   grows-confirm : (ws : List (List ℕ)) (p : Progress) → tellsR (p .frames) ≡ false → Grows a now d c u ws p → Grows a now d c u ws (confirmAll p)
-  unfolding confirmAll settle asdusOf Numbered others
+  unfolding confirmAll settle asdusOf NumberedFrames others
   grows-confirm ws p none g =
       let r = onWire (p .link .received) in
       let few = g .few in
@@ -231,7 +231,7 @@ module _ (a : Abstract) (now d c : ℕ) {u : ℕ} where
 
 module _ (a : Abstract) (now : ℕ) where
   begins : Grows a now 0 0 0 (a .waiting) (begin a)
-  unfolding asdusOf Numbered tellsR others
+  unfolding asdusOf NumberedFrames tellsR others
   begins =
       record {
         sent = sym (add-zero _);
@@ -251,7 +251,7 @@ module _ (a : Abstract) (now : ℕ) where
     where
       freed-first : Grows a now d 0 0 (a .waiting) (begin (free d a))
       freed-first =
-          unfold asdusOf Numbered tellsR others in
+          unfold asdusOf NumberedFrames tellsR others in
           (record {
             sent = sym (add-zero _);
             received = sym (add-zero _);
@@ -270,7 +270,7 @@ module _ (a : Abstract) (now : ℕ) where
     where
       freed-first : Grows a now d 1 0 (a .waiting) (begin (free d (count a)))
       freed-first =
-          unfold asdusOf Numbered tellsR others in
+          unfold asdusOf NumberedFrames tellsR others in
           (record {
             sent = sym (add-zero _);
             received = refl;
@@ -296,7 +296,7 @@ module _ (a : Abstract) (now : ℕ) where
           confirmed = rw ed (g .confirmed);
           times = rw ed (g .times);
           order = et ∙ sym (g .order);
-          numbers = subst (λ (n : ℕ). Numbered (a .sent) n (p .frames)) (sym (g .received)) (g .numbers);
+          numbers = subst (λ (n : ℕ). NumberedFrames (a .sent) n (p .frames)) (sym (g .received)) (g .numbers);
           unconfirmed = rw ec (g .unconfirmed);
           settings = g .settings;
           few = omega arith;
@@ -305,7 +305,7 @@ module _ (a : Abstract) (now : ℕ) where
 
     has-refused : (n : ℕ) (b : Abstract) → b .sent ≡ a .sent → b .received ≡ a .received → b .confirmed ≡ a .confirmed → b .times ≡ a .times → b .waiting ≡ a .waiting → b .settings ≡ a .settings → b .unconfirmed ≡ a .unconfirmed
         → frees e n (a .confirmed) ≡ 0 → counts e n ≡ 0 → takes e n ≡ [] → Effect e now a (record { refused = n; link = b; frames = []; came = false })
-    unfolding asdusOf Numbered tellsR others
+    unfolding asdusOf NumberedFrames tellsR others
     has-refused n b s r f t w k u ed ec et =
         record {
           sent = s ∙ sym (add-zero _);

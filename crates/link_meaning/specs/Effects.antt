@@ -24,11 +24,11 @@ asdusOf (sFrame r ∷ fs) = asdusOf fs
 asdusOf (uFrame u ∷ fs) = asdusOf fs
 
 -- each I frame has the remainders of the total before it, s at first, and of r; each S frame has that of r
-unfoldable pub Numbered : ℕ → ℕ → List Frame → Type 0
-Numbered s r [] = Unit {0}
-Numbered s r (iFrame a b x ∷ fs) = (a ≡ onWire s) × (b ≡ onWire r) × Numbered (s + 1) r fs
-Numbered s r (sFrame b ∷ fs) = (b ≡ onWire r) × Numbered s r fs
-Numbered s r (uFrame u ∷ fs) = Numbered s r fs
+unfoldable pub NumberedFrames : ℕ → ℕ → List Frame → Type 0
+NumberedFrames s r [] = Unit {0}
+NumberedFrames s r (iFrame a b x ∷ fs) = (a ≡ onWire s) × (b ≡ onWire r) × NumberedFrames (s + 1) r fs
+NumberedFrames s r (sFrame b ∷ fs) = (b ≡ onWire r) × NumberedFrames s r fs
+NumberedFrames s r (uFrame u ∷ fs) = NumberedFrames s r fs
 
 -- whether one of them carries R: an I or an S frame
 unfoldable pub tellsR : List Frame → Bool
@@ -91,7 +91,7 @@ pub record Effect (e : Event) (now : ℕ) (a : Abstract) (r : Result) : Type 0 w
   pub confirmed : r .link .confirmed ≡ a .confirmed + frees e (r .refused) (a .confirmed)
   pub times : r .link .times ≡ drop (frees e (r .refused) (a .confirmed)) (a .times) ++ replicate (length (asdusOf (r .frames))) now
   pub order : a .waiting ++ takes e (r .refused) ≡ asdusOf (r .frames) ++ r .link .waiting
-  pub numbers : Numbered (a .sent) (r .link .received) (r .frames)
+  pub numbers : NumberedFrames (a .sent) (r .link .received) (r .frames)
   pub unconfirmed : r .link .unconfirmed ≡ pick (tellsR (r .frames)) 0 (a .unconfirmed + counts e (r .refused))
   pub settings : r .link .settings ≡ a .settings
   pub few : others (r .frames) ≤ 2

@@ -32,7 +32,7 @@ StaysSound = (e : Event) (l : Link) (pool : List ℕ) (output now : ℕ) → Sha
     → Kept (called e l pool output now) (length pool)
 
 -- a call: its event, the length of its output, its now
-pub record Call : Type 0 where
+pub record SizedCall : Type 0 where
   pub event : Event
   pub output : ℕ
   pub now : ℕ
@@ -40,7 +40,7 @@ pub record Call : Type 0 where
 -- what some calls make of a link and a pool, both handed back untouched: `Later l pool l′ pool′`
 pub data Later (l : Link) (pool : List ℕ) : Link → List ℕ → Type 0 where
   none : Later l pool l pool
-  then : {m : Link} {between : List ℕ} → Later l pool m between → (c : Call)
+  then : {m : Link} {between : List ℕ} → Later l pool m between → (c : SizedCall)
       → Later l pool (linkAfter (called (c .event) m between (c .output) (c .now))) (called (c .event) m between (c .output) (c .now) .pool)
 
 -- from opening on, through any calls, no call is refused under 19

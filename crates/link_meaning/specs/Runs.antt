@@ -9,14 +9,14 @@ use Rattle.link_state.specs.Opening.{opened, openRefusal}
 use Rattle.link_state.specs.declared.Settings.{Settings}
 use Rattle.link_state.specs.declared.Link.{Link}
 use Rattle.link.specs.Events.{called}
-use Rattle.link_meaning.specs.Kept.{Shaped, linkAfter, Call}
+use Rattle.link_meaning.specs.Kept.{Shaped, linkAfter, SizedCall}
 use Rattle.link_meaning.specs.Abstract.{Abstract, outstanding, fresh, step}
 use Rattle.link_meaning.specs.Meaning.{Means, OctetsIn}
 
 -- the link and the pool after some calls, handed back untouched between them, and the link by totals and lists after the same
 pub data Run (s : Settings) (start : ℕ) (pool : List ℕ) : Link → List ℕ → Abstract → Type 0 where
   opening : openRefusal s start ≡ 0 → Run s start pool (opened s start .link) pool (fresh s start)
-  after : {l : Link} {between : List ℕ} {a : Abstract} → Run s start pool l between a → (c : Call) → OctetsIn (c .event)
+  after : {l : Link} {between : List ℕ} {a : Abstract} → Run s start pool l between a → (c : SizedCall) → OctetsIn (c .event)
       → callRefusal l (c .output) (length between) (c .now) ≡ 0
       → Run s start pool (linkAfter (called (c .event) l between (c .output) (c .now))) (called (c .event) l between (c .output) (c .now) .pool)
       (step (c .event) (c .now) a .link)

@@ -11,13 +11,16 @@ use crate::State;
 use crate::Timers;
 use elements::refusals::Refusal;
 
-// 48 hours, and the last moment of a clock of 48 bits.
+// 48 hours.
 pub const MAX_TIME: u64 = 172_800_000;
 
+// The last moment of a clock of 48 bits.
 pub const MAX_CLOCK: u64 = 281_474_976_710_655;
 
+// A call writes at most 16 I frames of 255 octets and two frames of 6: 4,092.
 pub const MIN_OUTPUT: usize = 4096;
 
+// 16 slots of 249 octets.
 pub const MIN_POOL: usize = 3984;
 
 pub(crate) fn sound_settings(s: Settings) -> bool

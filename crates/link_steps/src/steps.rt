@@ -162,7 +162,7 @@ pub fn confirm(s: State, out: &mut [u8], at: usize) -> Made
     Made { state: m, end }
 }
 
-fn is_due(s: State, more: bool) -> bool
+fn must_confirm(s: State, more: bool) -> bool
     ensures { λ r. ⌜ r ≡ due s more ⌝ }
 {
     let count = s.receive.unconfirmed;
@@ -176,7 +176,7 @@ pub fn finish(s: State, out: &mut [u8], at: usize, more: bool, moment: u64) -> M
 {
     let mut m = s;
     m.clock = moment;
-    if is_due(s, more) {
+    if must_confirm(s, more) {
         return confirm(m, out, at);
     }
     Made { state: m, end: at }

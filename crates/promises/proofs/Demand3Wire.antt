@@ -23,7 +23,7 @@ use Rattle.assembly.specs.declared.start.StartAnswer.{StartAnswer}
 use Rattle.assembly.specs.declared.start.StartAnswer.the-variants.{Whole}
 use Rattle.assembly.proofs.Sights.{enough-whole, longer-whole}
 use Rattle.link.specs.Frames.{Frame, iFrame, sFrame, uFrame, octetsOf, wire}
-use Rattle.link_meaning.specs.Effects.{asdusOf, tellsR, others, Numbered as NumberedFrames}
+use Rattle.link_meaning.specs.Effects.{asdusOf, tellsR, others, NumberedFrames}
 use Rattle.asdu.proofs.Passed.{plain-reads, plain-sized}
 use Rattle.promises.specs.Demand3.{keepI, iFramesIn, asdusIn, Numbered, toldIn}
 use Rattle.promises.proofs.FrameBack.{i-reads, part-is, s-reads, frame-reads-back}

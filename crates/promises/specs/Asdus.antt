@@ -40,12 +40,12 @@ pub record Same (a b : Asdu) : Type 0 where
   pub address-same : a .address ≡ b .address
   pub objects-same : ownObjects a ≡ ownObjects b
 
--- what the code's types give: an array of 127 objects, u8, u16 and u32 numbers, and values of their own types
+-- u32 addresses, and values of their own types
 abbrev pub TypedObjects : List Object → Type 0
 TypedObjects [] = Unit {0}
 TypedObjects (o ∷ os) = (o .address < 4294967296) × (Typed (o .value) × TypedObjects os)
 
--- the only premise on a record
+-- what the code's types give, and the only premise on a record: an array of 127 objects, u8 and u16 numbers
 pub record TypedAsdu (a : Asdu) : Type 0 where
   pub array : length (a .objects) ≡ 127
   pub type-octet : a .«type_id» < 256
@@ -72,7 +72,7 @@ AsduReadsBack = (a : Asdu) (room : ℕ) → TypedAsdu a → writeRefusal a room 
 
 -- ---- writes again
 
--- the layouts of all octets of an ASDU, in wire order: only those of elements may reserve bits
+-- a form n times over
 abbrev pub times : ℕ → List Layout → List Layout
 times zero f = []
 times (suc n) f = f ++ times n f
@@ -82,7 +82,7 @@ abbrev pub bodyForm : Bool → Kind → ℕ → List Layout
 bodyForm true k n = replicate 3 whole ++ times n (formOf k)
 bodyForm false k n = times n (replicate 3 whole ++ formOf k)
 
--- six octets of the header, then the body
+-- the layouts of all octets of an ASDU, in wire order, six of the header and then the body: only those of elements may reserve bits
 abbrev pub asduForm : HeaderAnswer → List Layout
 asduForm (HeaderAnswer.Refused r) = []
 asduForm (HeaderAnswer.Header h) = replicate 6 whole ++ bodyForm (h .sequence) (h .kind) (h .count)

@@ -44,7 +44,7 @@ pub record RefusedLeaves : Type 0 where
 
 -- ---- the link
 
--- "27 to 32, and 1 to 14 for a received frame, close the link."
+-- the event is a frame received
 abbrev pub bringsFrame : Event → Bool
 bringsFrame (frame f more) = true
 bringsFrame (send asdu) = false
@@ -52,7 +52,7 @@ bringsFrame stop = false
 bringsFrame test = false
 bringsFrame tick = false
 
--- whether a refusal with this number closes the link
+-- whether a refusal with this number closes the link: "27 to 32, and 1 to 14 for a received frame, close the link."
 abbrev pub closes : Event → ℕ → Bool
 closes e n = between 27 32 n || (bringsFrame e && between 1 14 n)
 
@@ -91,7 +91,7 @@ pub record LinkCall (c : Call) (l : Link) (pool : List ℕ) : Type 0 where
   pub full : entryOf c l pool .number ≡ 0 → linkFull (answered c l pool .answer) ≡ windowFull (answered c l pool .link .state)
   pub came : linkCame (answered c l pool .answer) ≡ (eqb (entryOf c l pool .number) 0 && isI (brings (c .event)))
   -- "After every accepted call that has not ended the link, except a frame marked "more to come", confirm if the count is above w":
-  -- so the count is never above w then
+  -- so the count is never above w then. "always at 32,768" is in `StaysSound`: the count of a sound link is at most 32,767
   pub confirmed : entryOf c l pool .number ≡ 0 → answered c l pool .link .state .status .closed ≡ false → moreToCome (c .event) ≡ false
       → answered c l pool .link .state .receive .unconfirmed ≤ answered c l pool .link .state .settings .w
 

@@ -94,8 +94,8 @@ HandsBack = (carry : List ℕ) (held : ℕ) (chunk : List ℕ) (n : ℕ)
     → 255 ≤ length carry → held ≤ 255 → startAnswer (take held carry) ≡ StartAnswer.More → startAnswer (take held carry ++ chunk) ≡ StartAnswer.Whole n
     → pickPart (stepCarry carry held chunk) (held + stepMoved (stepAnswer carry held chunk)) chunk ≡ take n (take held carry ++ chunk)
 
--- "its length is 2 + L": whatever the carry holds, the part that picking hands out is a whole frame, as long as the answer tells;
--- "more and a refusal have the empty part"
+-- Whatever the carry holds, the part that picking hands out is a whole frame, as long as the answer tells; "more and a refusal
+-- have the empty part"
 abbrev pub PickedBy : PickAnswer → List ℕ → Type 0
 PickedBy (PickAnswer.Carry n) part = IsFrame part × (length part ≡ n)
 PickedBy (PickAnswer.Chunk n) part = IsFrame part × (length part ≡ n)

@@ -24,7 +24,7 @@ pub fn reads(given: &[u8], told: &[u8]) -> bool {
     record_is(&record, laws::part_from(told, 1))
 }
 
-fn written_is(out: &[u8; 256], len: usize, told: &[u8]) -> bool {
+pub fn written_is(out: &[u8; 256], len: usize, told: &[u8]) -> bool {
     check::same(text::part_to(out, len), told)
 }
 

@@ -39,10 +39,6 @@ pub fn reads(given: &[u8], told: &[u8]) -> bool {
     asdu_is(given, laws::part_from(told, TOLD_SIZE))
 }
 
-fn written_is(out: &[u8; 256], len: usize, told: &[u8]) -> bool {
-    check::same(text::part_to(out, len), told)
-}
-
 // Told is what its reading is written as. It is plain exactly if that is what was given.
 pub fn writes(given: &[u8], told: &[u8]) -> bool {
     let mut out = [0u8; 256];
@@ -50,5 +46,5 @@ pub fn writes(given: &[u8], told: &[u8]) -> bool {
     if (bridge_frames::gg_frame_plain(given) == 0) != check::same(given, told) {
         return false;
     }
-    written_is(&out, len, told)
+    asdus::written_is(&out, len, told)
 }

@@ -6,8 +6,8 @@ use Rattle.link_steps.proofs.Made.{makes-confirm, makes-none}
 use Rattle.link_steps.proofs.steps.finish.Statement.{statement}
 use Rattle.link_steps.proofs.steps.finish.Tie as tie
 
-is-due-requires : tie.Need-is-due-requires
-is-due-requires c κs = search needs
+must-confirm-requires : tie.Need-must-confirm-requires
+must-confirm-requires c κs = search needs
 
 confirm-requires : tie.Need-confirm-requires
 confirm-requires c κs = search needs
@@ -19,14 +19,14 @@ returns : tie.Need-returns
 unfolding ending
 returns c =
     let done = c .before .before .confirm .ensures in
-    let yes = sym (c .before .before .before .before .before .is-due .ensures) ∙ c .before .before .before .before .if1 .taken in
+    let yes = sym (c .before .before .before .before .before .must-confirm .ensures) ∙ c .before .before .before .before .if1 .taken in
     λ ts. rw yes (makes-confirm _ ts _ _ (done .0) (done .1))
 
 returns-2 : tie.Need-returns-2
 unfolding ending
 returns-2 c =
-    let no = sym (c .before .is-due .ensures) ∙ c .if1 .left in
+    let no = sym (c .before .must-confirm .ensures) ∙ c .if1 .left in
     λ ts. rw no (makes-none _ ts _ _)
 
 pub finish-spec : {M : Type 1} → statement M
-finish-spec = tie.close (tie.spec is-due-requires confirm-requires same-length returns returns-2)
+finish-spec = tie.close (tie.spec must-confirm-requires confirm-requires same-length returns returns-2)

@@ -10,15 +10,15 @@ use Rattle.elements.proofs.information_elements.Vti.from_byte.Tie as ti
 from-byte-requires : tie.Need-from-byte-requires
 from-byte-requires c κs = search needs
 
-step-of-requires : tie.Need-step-of-requires
-step-of-requires c κs = search needs
+step-position-requires : tie.Need-step-position-requires
+step-position-requires c κs = search needs
 
 returns : tie.Need-returns
 returns c =
-    let back : toZ w8 (ofZ w8 (c .step-of .result)) ≡ c .step-of .result = search needs in
-    let value = back ∙ c .step-of .ensures in
+    let back : toZ w8 (ofZ w8 (c .step-position .result)) ≡ c .step-position .result = search needs in
+    let value = back ∙ c .step-position .ensures in
     let quality = c .before .from-byte .ensures in
     λ i. record { value = value i; transient = flag 7 (c .before .before .args .first); qds = quality i }
 
 pub from-byte-spec : {M : Type 1} → statement M
-from-byte-spec = tie.close (tie.spec from-byte-requires step-of-requires returns)
+from-byte-spec = tie.close (tie.spec from-byte-requires step-position-requires returns)

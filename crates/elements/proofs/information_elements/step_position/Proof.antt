@@ -1,4 +1,4 @@
--- `elements::information_elements::step_of` meets its contract. Assumes nothing.
+-- `elements::information_elements::step_position` meets its contract. Assumes nothing.
 use Prim.Native.Nat.{_%_}
 use mathlib.Core.Path.{_≡_, _∙_}
 use native.Mathlib.Omega.{arith}
@@ -6,8 +6,8 @@ use mir.Syntax.{w8}
 use mir.Val.{toZ, ofZ}
 use borrow.Author.Needs.{needs}
 use Rattle.elements.proofs.Signed.{widen-low, widen-high}
-use Rattle.elements.proofs.information_elements.step_of.Statement.{statement}
-use Rattle.elements.proofs.information_elements.step_of.Tie as tie
+use Rattle.elements.proofs.information_elements.step_position.Statement.{statement}
+use Rattle.elements.proofs.information_elements.step_position.Tie as tie
 
 signed8-requires : tie.Need-signed8-requires
 signed8-requires c κs = search needs
@@ -30,5 +30,5 @@ returns-2 c =
     let back : toZ w8 (ofZ w8 (c .signed82 .result)) ≡ c .signed82 .result = search needs in
     back ∙ (c .signed82 .ensures ∙ widen-high n (c .before .if1 .left) (omega arith))
 
-pub step-of-spec : {M : Type 1} → statement M
-step-of-spec = tie.close (tie.spec signed8-requires returns add-signed8 signed8-requires-2 returns-2)
+pub step-position-spec : {M : Type 1} → statement M
+step-position-spec = tie.close (tie.spec signed8-requires returns add-signed8 signed8-requires-2 returns-2)
