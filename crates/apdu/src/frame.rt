@@ -11,7 +11,7 @@ pub const START: u8 = 0x68;
 // The greatest L.
 pub const MAX_LENGTH: u8 = 253;
 
-// Octets before the ASDU.
+// Octets before the ASDU, and of a frame without one.
 pub const ASDU_START: usize = 6;
 
 // Send and receive number, each a type of its own, so that they cannot be mixed.

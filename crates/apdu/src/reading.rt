@@ -72,7 +72,7 @@ fn read_long(f: &[u8]) -> FrameAnswer
     if laws::octet_at(f, 4) % 2 != 0 {
         return FrameAnswer::Refused(Refusal::BAD_I_CONTROL);
     }
-    let refused = checking::check_asdu(laws::part_from(f, 6));
+    let refused = checking::check_asdu(laws::part_from(f, frame::ASDU_START));
     if !refused.is_none() {
         return FrameAnswer::Refused(refused);
     }
@@ -100,7 +100,7 @@ pub fn asdu_of(f: &[u8]) -> &[u8]
     let FrameAnswer::I(_, _) = answer else {
         return laws::part_from(f, f.len());
     };
-    laws::part_from(f, 6)
+    laws::part_from(f, frame::ASDU_START)
 }
 
 // Whether writing a frame's reading gives the same octets.
@@ -109,7 +109,7 @@ pub fn plain_frame(f: &[u8]) -> PlainAnswer
 {
     let answer = read_frame(f);
     match answer {
-        FrameAnswer::I(_, _) => asdu_plain::plain_asdu(laws::part_from(f, 6)),
+        FrameAnswer::I(_, _) => asdu_plain::plain_asdu(laws::part_from(f, frame::ASDU_START)),
         FrameAnswer::S(_) => {
             if laws::octet_at(f, 4) % 2 == 0 {
                 return PlainAnswer::Plain;

@@ -43,22 +43,22 @@ pub fn write_s(receive: ReceiveNumber, out: &mut [u8]) -> WriteAnswer
     if !number.is_none() {
         return WriteAnswer::Refused(number);
     }
-    if out.len() < 6 {
+    if out.len() < frame::ASDU_START {
         return WriteAnswer::Refused(Refusal::OUTPUT_TOO_SHORT);
     }
     put_start(out, 0, 4, 1, receive.0 * 2);
-    WriteAnswer::Octets(6)
+    WriteAnswer::Octets(frame::ASDU_START)
 }
 
 pub fn write_u(u: UFrame, out: &mut [u8]) -> WriteAnswer
     ensures { λ r. ⌜ r ≡ answerFor (roomRefusal 6 (length (now (out .entry)))) (uOctets u) ⌝ }
     ensures { λ r. ⌜ now (out .exit) ≡ outputFor (roomRefusal 6 (length (now (out .entry)))) (uOctets u) (now (out .entry)) ⌝ }
 {
-    if out.len() < 6 {
+    if out.len() < frame::ASDU_START {
         return WriteAnswer::Refused(Refusal::OUTPUT_TOO_SHORT);
     }
     put_start(out, 0, 4, u.to_byte() as u16, 0);
-    WriteAnswer::Octets(6)
+    WriteAnswer::Octets(frame::ASDU_START)
 }
 
 fn numbers_refusal(s: u16, r: u16) -> Refusal
@@ -83,12 +83,12 @@ pub fn write_i(send: SendNumber, receive: ReceiveNumber, asdu: Asdu, out: &mut [
     if out.len() < frame::ASDU_START {
         return WriteAnswer::Refused(asdu_write::write_refusal(asdu, 0));
     }
-    let answer = asdu_write::write_asdu(asdu, &mut out[6..]);
+    let answer = asdu_write::write_asdu(asdu, &mut out[frame::ASDU_START..]);
     let WriteAnswer::Octets(n) = answer else {
         return answer;
     };
     put_start(out, 0, (4 + n) as u8, send.0 * 2, receive.0 * 2);
-    WriteAnswer::Octets(6 + n)
+    WriteAnswer::Octets(frame::ASDU_START + n)
 }
 
 // An I frame from an ASDU's octets, checked first. The link checks what it takes, and puts its frames by `put_start`.
@@ -110,10 +110,10 @@ pub fn write_i_octets(
         return WriteAnswer::Refused(refused);
     }
     let size = asdu.len();
-    if out.len() < 6 + size {
+    if out.len() < frame::ASDU_START + size {
         return WriteAnswer::Refused(Refusal::OUTPUT_TOO_SHORT);
     }
     laws::put_octets(out, frame::ASDU_START, asdu);
     put_start(out, 0, (4 + size) as u8, send.0 * 2, receive.0 * 2);
-    WriteAnswer::Octets(6 + size)
+    WriteAnswer::Octets(frame::ASDU_START + size)
 }

@@ -46,7 +46,7 @@ fn first_refusal(kind: Kind, object: Object) -> Refusal
     if kinds::type_of(values::kind_of_value(value)) != kinds::type_of(kind) {
         return Refusal::WRONG_KIND;
     }
-    if 16777215 < object.address {
+    if objects::MAX_ADDRESS < object.address {
         return Refusal::WRONG_ADDRESS;
     }
     values::value_refusal(value)

@@ -14,6 +14,9 @@ use elements::refusals::Refusal;
 use kinds::Kind;
 use values::Value;
 
+// An address has three octets.
+pub const MAX_ADDRESS: u32 = 16_777_215;
+
 pub struct Object {
     pub address: u32,
     pub value: Value,
@@ -73,7 +76,7 @@ pub fn put_object(out: &mut [u8], object: Object)
 pub fn object_at(address: u32, value: Value) -> ObjectAnswer
     ensures { λ r. ⌜ r ≡ objectAnswer address value ⌝ }
 {
-    if 16777215 < address {
+    if MAX_ADDRESS < address {
         return ObjectAnswer::Refused(Refusal::WRONG_ADDRESS);
     }
     ObjectAnswer::Object(Object { address, value })
@@ -102,7 +105,7 @@ fn kind_refusal(kind: Kind, value: Value) -> Refusal
 fn address_refusal(sequence: bool, first: u32, index: usize, address: u32) -> Refusal
     ensures { λ r. ⌜ r ≡ refusal (addressRefusal sequence first index address) ⌝ }
 {
-    if 16777215 < address {
+    if MAX_ADDRESS < address {
         return Refusal::WRONG_ADDRESS;
     }
     if !sequence {
