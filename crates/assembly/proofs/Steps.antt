@@ -44,7 +44,7 @@ module _ (carry : List ℕ) (held : ℕ) (chunk : List ℕ) (room : 255 ≤ leng
   pub held-long : length (take held carry) ≡ held
   held-long = length-take-le held carry (omega arith)
 
-  hand-long : length (onHand carry held chunk) ≡ held + length chunk
+  pub hand-long : length (onHand carry held chunk) ≡ held + length chunk
   hand-long = length-append (take held carry) chunk ∙ ap (λ (n : ℕ). n + length chunk) held-long
 
   pub pick-by : pickAnswer carry held chunk ≡ pick (ltb 0 held) (fromCarry (startAnswer (take held carry))) (fromChunk (startAnswer chunk))
@@ -132,7 +132,7 @@ module _ (carry : List ℕ) (held : ℕ) (chunk : List ℕ) (room : 255 ≤ leng
 
 module _ (carry : List ℕ) (held : ℕ) (chunk : List ℕ) (room : 255 ≤ length carry) (count : held ≤ 255) (more : startAnswer (take held carry) ≡ More) where
   -- the first bytes on hand are the held ones and then the chunk's
-  first-part : (n : ℕ) → held ≤ n → take held carry ++ take (n - held) chunk ≡ take n (onHand carry held chunk)
+  pub first-part : (n : ℕ) → held ≤ n → take held carry ++ take (n - held) chunk ≡ take n (onHand carry held chunk)
   first-part n h =
       let e : length (take held carry) + (n - held) ≡ n = omega (arith, held-long carry held chunk room count) in
       sym (take-append-add (take held carry) chunk (n - held)) ∙ ap (λ (k : ℕ). take k (onHand carry held chunk)) e

@@ -30,12 +30,18 @@ pickAnswer carry held chunk =
     (pick (ltb 0 held) (fromCarry (startAnswer (take held carry))) (fromChunk (startAnswer chunk)))
     (Refused (refusal (carryRefusal (length carry) held)))
 
--- an answer's number, 0 where there is a frame or more is needed, and its part
+-- an answer's number, 0 where there is a frame or more is needed; how long its part is; and the part
 abbrev pub pickNumber : PickAnswer → ℕ
 pickNumber (Carry n) = 0
 pickNumber (Chunk n) = 0
 pickNumber More = 0
 pickNumber (Refused r) = r .0
+
+abbrev pub pickLength : PickAnswer → ℕ
+pickLength (Carry n) = n
+pickLength (Chunk n) = n
+pickLength More = 0
+pickLength (Refused r) = 0
 
 abbrev pub pickPartBy : PickAnswer → List ℕ → List ℕ → List ℕ
 pickPartBy (Carry n) carry chunk = take n carry

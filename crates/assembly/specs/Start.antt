@@ -29,6 +29,17 @@ sight n first l =
 abbrev pub startAnswer : List ℕ → StartAnswer
 startAnswer s = sight (length s) (getD s 0 0) (getD s 1 0)
 
+-- an answer's number, 0 where there is a frame or more is needed, and how long its frame is, 0 where it tells of none
+abbrev pub startNumber : StartAnswer → ℕ
+startNumber (Whole n) = 0
+startNumber More = 0
+startNumber (Refused r) = r .0
+
+abbrev pub startLength : StartAnswer → ℕ
+startLength (Whole n) = n
+startLength More = 0
+startLength (Refused r) = 0
+
 -- 33: a carry buffer under 255 bytes, or its count above 255
 unfoldable pub carryRefusal : ℕ → ℕ → ℕ
 carryRefusal room held = pick (ltb room 255) badCarry (pick (ltb 255 held) badCarry 0)

@@ -34,7 +34,8 @@ afterPick carry held chunk (PickAnswer.Refused r) = Refused r
 unfoldable pub stepAnswer : List ℕ → ℕ → List ℕ → StepAnswer
 stepAnswer carry held chunk = afterPick carry held chunk (pickAnswer carry held chunk)
 
--- an answer's number, 0 where there is a frame or more is needed, and how many bytes were moved
+-- an answer's number, 0 where there is a frame or more is needed; how many bytes were moved; and how long the frame is, 0 where
+-- the answer tells of none
 abbrev pub stepNumber : StepAnswer → ℕ
 stepNumber (Chunk n) = 0
 stepNumber (Carry m n) = 0
@@ -46,6 +47,12 @@ stepMoved (Chunk n) = 0
 stepMoved (Carry m n) = m
 stepMoved (More m) = m
 stepMoved (Refused r) = 0
+
+abbrev pub stepLength : StepAnswer → ℕ
+stepLength (Chunk n) = n
+stepLength (Carry m n) = n
+stepLength (More m) = 0
+stepLength (Refused r) = 0
 
 -- the carry's buffer afterwards: only the bytes moved have changed
 unfoldable pub stepCarry : List ℕ → ℕ → List ℕ → List ℕ

@@ -15,8 +15,9 @@ use Rattle.promises.proofs.FrameBack.{frame-reads-back}
 use Rattle.promises.proofs.FrameAgain.{frame-writes-again}
 use Rattle.promises.proofs.FrameTells.{frame-tells}
 use Rattle.promises.proofs.FrameAccepts.{frame-accepts}
-use Rattle.promises.proofs.CutFree.{cut-independent, in-place}
-use Rattle.promises.proofs.Cuts.{cuts}
+use Rattle.promises.proofs.Starts.{starts}
+use Rattle.promises.proofs.Cuts.{cuts, outcomes, one-outcome}
+use Rattle.promises.proofs.CutFree.{cut-independent, topping-first, in-place}
 use Rattle.promises.proofs.Parts.{hands-back, picks-frames}
 use Rattle.promises.proofs.Demand3.{demand-3}
 use Rattle.promises.proofs.Demand3Runs.{covers, goes-on, room-enough}
@@ -33,7 +34,17 @@ pub frame-level : FrameLevel
 frame-level = record { back = frame-reads-back; again = frame-writes-again; tells = frame-tells; accepts = frame-accepts }
 
 pub stream-level : StreamLevel
-stream-level = record { cut = cut-independent; cuts = cuts; uncopied = in-place; part = hands-back; picked = picks-frames }
+stream-level = record {
+  starts = starts;
+  cuts = cuts;
+  outcomes = outcomes;
+  one-outcome = one-outcome;
+  cut = cut-independent;
+  topping = topping-first;
+  uncopied = in-place;
+  part = hands-back;
+  picked = picks-frames;
+}
 
 pub demand-3-level : Demand3Level
 demand-3-level = record { claims = demand-3; covers = covers; goes-on = goes-on; room = room-enough; shows = shows; reaches = reaches }

@@ -11,9 +11,10 @@ pub mod FrameAgain
 pub mod FrameTells
 pub mod FrameAccepts
 pub mod FrameCases
-pub mod CutFree
+pub mod Starts
 pub mod Cuts
 pub mod Parts
+pub mod CutFree
 pub mod OneAnswer
 pub mod Acknowledged
 pub mod Demand3Wire

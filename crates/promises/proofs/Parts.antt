@@ -7,72 +7,98 @@ use native.Mathlib.Decide.{decLt}
 use borrow.Author.Tests.{lt-ltb}
 use lib.Dec.{ltb, eqb}
 use lib.ListN.{length, take, length-take}
-use lib.Seq.{length-take-le, take-take}
+use lib.Seq.{length-take-le, take-take, take-append-seam}
 use Rattle.laws.proofs.Choices.{picked}
 use Rattle.assembly.specs.Start.{startAnswer, carryRefusal}
-use Rattle.assembly.specs.Picking.{fromCarry, fromChunk, pickPartBy, pickAnswer, pickPart}
+use Rattle.assembly.specs.Picking.{fromCarry, fromChunk, pickAnswer, pickLength, pickPartBy, pickPart}
 use Rattle.assembly.specs.Topping.{onHand}
-use Rattle.assembly.specs.Stepping.{stepMoved, stepCarry}
+use Rattle.assembly.specs.Stepping.{stepAnswer, stepNumber, stepMoved, stepLength, stepCarry}
 use Rattle.assembly.specs.declared.start.StartAnswer.{StartAnswer}
 use Rattle.assembly.specs.declared.start.StartAnswer.the-variants.{Whole, More, Refused}
 use Rattle.assembly.specs.declared.picking.PickAnswer.{PickAnswer}
 use Rattle.assembly.specs.declared.picking.PickAnswer.the-variants as PickAnswer
 use Rattle.assembly.specs.declared.stepping.StepAnswer.{StepAnswer}
 use Rattle.assembly.proofs.Sights.{frame-of, first-whole, start-short}
-use Rattle.assembly.proofs.Steps.{held-long, pick-by, step-chunk, step-carry, carry-long, holds-frame}
-use Rattle.promises.specs.Streams.{IsFrame, HandsBack, PickedBy, PicksFrames}
+use Rattle.assembly.proofs.Steps.{Needing, held-long, pick-by, step-chunk, step-carry, carry-long, holds-frame}
+use Rattle.promises.specs.Streams.{IsFrame, HandsBack, PickedBy, Picked}
+use Rattle.promises.proofs.Starts.{frame-whole, unfinished-more}
 use Rattle.promises.proofs.Cuts.{is-frame}
 
-part-of : (carry : List ℕ) (held : ℕ) (chunk : List ℕ) (a : PickAnswer) → pickAnswer carry held chunk ≡ a → pickPart carry held chunk ≡ pickPartBy a carry chunk
+pub part-of : (carry : List ℕ) (held : ℕ) (chunk : List ℕ) (a : PickAnswer) → pickAnswer carry held chunk ≡ a → pickPart carry held chunk ≡ pickPartBy a carry chunk
 unfolding pickPart
 part-of carry held chunk a e = ap (λ (p : PickAnswer). pickPartBy p carry chunk) e
 
-pub hands-back : HandsBack
-hands-back carry held chunk n room count more e = elim (decLt 0 held) [
+-- a step that has a whole frame on hand, where the held bytes need more
+pub picks-back : (carry : List ℕ) (held : ℕ) (chunk : List ℕ) (n : ℕ) → Needing carry held → startAnswer (onHand carry held chunk) ≡ Whole n
+    → pickPart (stepCarry carry held chunk) (held + stepMoved (stepAnswer carry held chunk)) chunk ≡ take n (onHand carry held chunk)
+picks-back carry held chunk n need e = elim (decLt 0 held) [
   | yes some ↦
       let after = stepCarry carry held chunk in
       let f = frame-of _ _ _ n e in
-      let short : held < n = omega (arith, start-short (take held carry) chunk n more e, held-long carry held chunk room count) in
-      let frame : take n after ≡ take n (onHand carry held chunk) = holds-frame carry held chunk room count more n some e .0 in
+      let short : held < n = omega (arith, start-short (take held carry) chunk n (need .more) e, held-long carry held chunk (need .room) (need .count)) in
+      let frame : take n after ≡ take n (onHand carry held chunk) = holds-frame carry held chunk (need .room) (need .count) (need .more) n some e .0 in
       let whole : startAnswer (take n after) ≡ Whole n = ap (λ (s : List ℕ). startAnswer s) frame ∙ first-whole (onHand carry held chunk) n e in
-      let roomy : 255 ≤ length after = omega (arith, carry-long carry held chunk room count more) in
+      let roomy : 255 ≤ length after = omega (arith, need .room, carry-long carry held chunk (need .room) (need .count) (need .more)) in
       let picked : pickAnswer after n chunk ≡ PickAnswer.Carry n =
       pick-by after n chunk roomy (omega (arith, f .size, f .shape .most)) ∙ rw (lt-ltb 0 n (omega arith), whole) in
-      ap (λ (a : StepAnswer). pickPart after (held + stepMoved a) chunk) (step-carry carry held chunk room count more n some e)
+      ap (λ (a : StepAnswer). pickPart after (held + stepMoved a) chunk) (step-carry carry held chunk (need .room) (need .count) (need .more) n some e)
       ∙ (ap (λ (k : ℕ). pickPart after k chunk) (omega arith) ∙ (part-of after n chunk (PickAnswer.Carry n) picked ∙ frame))
   | no none ↦
       let after = stepCarry carry held chunk in
       let z : held ≡ 0 = omega arith in
       let same : onHand carry held chunk ≡ chunk = ap (λ (k : ℕ). onHand carry k chunk) z in
       let whole : startAnswer chunk ≡ Whole n = sym (ap (λ (s : List ℕ). startAnswer s) same) ∙ e in
-      let roomy : 255 ≤ length after = omega (arith, carry-long carry held chunk room count more) in
+      let roomy : 255 ≤ length after = omega (arith, need .room, carry-long carry held chunk (need .room) (need .count) (need .more)) in
       let picked : pickAnswer after 0 chunk ≡ PickAnswer.Chunk n = pick-by after 0 chunk roomy (omega arith) ∙ rw whole in
-      ap (λ (a : StepAnswer). pickPart after (held + stepMoved a) chunk) (step-chunk carry held chunk room count more n z whole)
+      ap (λ (a : StepAnswer). pickPart after (held + stepMoved a) chunk) (step-chunk carry held chunk (need .room) (need .count) (need .more) n z whole)
       ∙ (ap (λ (k : ℕ). pickPart after k chunk) (omega arith) ∙ (part-of after 0 chunk (PickAnswer.Chunk n) picked ∙ ap (take n) (sym same)))
 ]
+
+-- its answer by number and length
+tells : (carry : List ℕ) (held : ℕ) (chunk : List ℕ) (n : ℕ) → Needing carry held → startAnswer (onHand carry held chunk) ≡ Whole n
+    → (stepNumber (stepAnswer carry held chunk) ≡ 0) × (stepLength (stepAnswer carry held chunk) ≡ n)
+tells carry held chunk n need e = elim (decLt 0 held) [
+  | yes some ↦ let s = step-carry carry held chunk (need .room) (need .count) (need .more) n some e in (ap stepNumber s, ap stepLength s)
+  | no none ↦
+      let z : held ≡ 0 = omega arith in
+      let whole : startAnswer chunk ≡ Whole n = sym (ap (λ (k : ℕ). startAnswer (onHand carry k chunk)) z) ∙ e in
+      let s = step-chunk carry held chunk (need .room) (need .count) (need .more) n z whole in
+      (ap stepNumber s, ap stepLength s)
+]
+
+pub hands-back : HandsBack
+hands-back carry held chunk f r room count u i e =
+    let need : Needing carry held = record { room = room; count = count; more = unfinished-more (take held carry) u } in
+    let whole : startAnswer (onHand carry held chunk) ≡ Whole (length f) = ap (λ (s : List ℕ). startAnswer s) e ∙ frame-whole f r i in
+    let t = tells carry held chunk (length f) need whole in
+    record { number = t .0; long = t .1; part = picks-back carry held chunk (length f) need whole ∙ (ap (take (length f)) e ∙ take-append-seam f r) }
 
 -- ---- any part
 
 module _ (carry : List ℕ) (held : ℕ) (chunk : List ℕ) where
   abbrev Told : PickAnswer → Type 0
-  Told a = PickedBy a (pickPartBy a carry chunk)
+  Told a = PickedBy a (pickPartBy a carry chunk) × (length (pickPartBy a carry chunk) ≡ pickLength a)
 
   from-carry : (a : StartAnswer) → startAnswer (take held carry) ≡ a → Told (fromCarry a)
   from-carry (Whole n) e =
       let f = frame-of _ _ _ n e in
       let same : take n (take held carry) ≡ take n carry = take-take n held carry (omega (arith, f .there, length-take held carry)) in
       (subst IsFrame same (is-frame (take held carry) n e), ap length (sym same) ∙ length-take-le n (take held carry) (f .there))
-  from-carry More e = refl
-  from-carry (Refused r) e = refl
+  from-carry More e = (refl, refl)
+  from-carry (Refused r) e = (refl, refl)
 
   from-chunk : (a : StartAnswer) → startAnswer chunk ≡ a → Told (fromChunk a)
   from-chunk (Whole n) e = (is-frame chunk n e, length-take-le n chunk (frame-of _ _ _ n e .there))
-  from-chunk More e = refl
-  from-chunk (Refused r) e = refl
+  from-chunk More e = (refl, refl)
+  from-chunk (Refused r) e = (refl, refl)
 
-pub picks-frames : PicksFrames
-unfolding pickAnswer pickPart
-picks-frames carry held chunk =
-    picked (Told carry held chunk) (eqb (carryRefusal (length carry) held) 0)
-    (picked (Told carry held chunk) (ltb 0 held) (from-carry carry held chunk (startAnswer (take held carry)) refl) (from-chunk carry held chunk (startAnswer chunk) refl))
-    refl
+  told : Told (pickAnswer carry held chunk)
+  unfolding pickAnswer
+  told =
+      picked Told (eqb (carryRefusal (length carry) held) 0)
+      (picked Told (ltb 0 held) (from-carry (startAnswer (take held carry)) refl) (from-chunk (startAnswer chunk) refl))
+      (refl, refl)
+
+pub picks-frames : (carry : List ℕ) (held : ℕ) (chunk : List ℕ) → Picked carry held chunk
+unfolding pickPart
+picks-frames carry held chunk = let t = told carry held chunk in record { frame = t .0; long = t .1 }
