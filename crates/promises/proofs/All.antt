@@ -18,7 +18,7 @@ use Rattle.promises.proofs.FrameAccepts.{frame-accepts}
 use Rattle.promises.proofs.Starts.{starts}
 use Rattle.promises.proofs.Cuts.{cuts, outcomes, one-outcome}
 use Rattle.promises.proofs.CutFree.{cut-independent, topping-first, in-place}
-use Rattle.promises.proofs.Parts.{hands-back, picks-frames}
+use Rattle.promises.proofs.Parts.{hands-back, picks-frames, picks, tops-up}
 use Rattle.promises.proofs.Demand3.{demand-3}
 use Rattle.promises.proofs.Demand3Runs.{covers, goes-on, room-enough}
 use Rattle.promises.proofs.Demand3Shown.{shows}
@@ -44,6 +44,8 @@ stream-level = record {
   uncopied = in-place;
   part = hands-back;
   picked = picks-frames;
+  picks = picks;
+  tops-up = tops-up;
 }
 
 pub demand-3-level : Demand3Level

@@ -27,19 +27,16 @@ use Rattle.assembly.specs.declared.stepping.StepAnswer.{StepAnswer}
 use Rattle.assembly.specs.declared.stepping.StepAnswer.the-variants as StepAnswer
 use Rattle.assembly.proofs.Sights.{few-more, frame-of, more-few, first-whole, longer-whole, longer-refused, start-short}
 use Rattle.assembly.proofs.Steps.{Needing, held-long, hand-long, pick-by, top-more, top-whole, top-refused, filled, first-part, step-chunk, step-carry, step-more, step-refused, carry-after, carry-long, holds-all}
-use Rattle.promises.specs.Streams.{Next, turns, enough, runBy, stepTurn, run, CutIndependent, pickedBy, toppedBy, topTurn, runTopping, ToppingFirst, InPlace}
+use Rattle.promises.specs.Streams.{Next, Turn, turns, enough, runBy, stepTurn, run, CutIndependent, runPicked, runTopped, topTurn, runTopping, ToppingFirst, InPlace}
 use Rattle.promises.proofs.Starts.{frame-whole}
 use Rattle.promises.proofs.Cuts.{stream-more, stream-refused, stream-whole}
 use Rattle.promises.proofs.Parts.{part-of, picks-back}
 
 -- ---- one turn
 
-abbrev Turn : Type 0
-Turn = ℕ → List ℕ → ℕ → List ℕ → List (List ℕ) → Next → StreamOutcome
-
 -- What a turn does on a carry that needs more, by what is on hand. It stops; or the carry holds all of the chunk, and it goes on
 -- with the next; or it hands out the frame, and goes on with an empty carry and what follows the frame. `after` is the buffer then.
-record Turns (turn : Turn) (at : ℕ) (carry : List ℕ) (held : ℕ) (c : List ℕ) (cs : List (List ℕ)) (next : Next) (after : List ℕ) : Type 0 where
+record OneTurn (turn : Turn) (at : ℕ) (carry : List ℕ) (held : ℕ) (c : List ℕ) (cs : List (List ℕ)) (next : Next) (after : List ℕ) : Type 0 where
   roomy : 255 ≤ length after
   kept : startAnswer (onHand carry held c) ≡ More → take (held + length c) after ≡ onHand carry held c
   refuses : (r : Refusal) → startAnswer (onHand carry held c) ≡ Refused r → turn at carry held c cs next ≡ noFrames (refused (r .0) at)
@@ -49,7 +46,7 @@ record Turns (turn : Turn) (at : ℕ) (carry : List ℕ) (held : ℕ) (c : List 
 
 abbrev Lawful : Turn → (List ℕ → ℕ → List ℕ → List ℕ) → Type 0
 Lawful turn after = (at : ℕ) (carry : List ℕ) (held : ℕ) (c : List ℕ) (cs : List (List ℕ)) (next : Next) → Needing carry held
-    → Turns turn at carry held c cs next (after carry held c)
+    → OneTurn turn at carry held c cs next (after carry held c)
 
 -- ---- one turn after the other
 
@@ -66,7 +63,7 @@ module _ (turn : Turn) (after : List ℕ → ℕ → List ℕ → List ℕ) (law
     abbrev hand : List ℕ
     hand = onHand carry held c
 
-    law : Turns turn at carry held c cs (turns turn fuel) (after carry held c)
+    law : OneTurn turn at carry held c cs (turns turn fuel) (after carry held c)
     law = lawful at carry held c cs (turns turn fuel) need
 
     joins : ahead carry held (c ∷ cs) ≡ hand ++ joined cs
@@ -187,8 +184,8 @@ unfolding topped
 top-long carry held c = length-sets carry held (take (movedIn (topUpAnswer carry held c)) c)
 
 module _ (at : ℕ) (carry : List ℕ) (held : ℕ) (c : List ℕ) (cs : List (List ℕ)) (next : Next) (need : Needing carry held) where
-  tops-by : (a : TopUpAnswer) → topUpAnswer carry held c ≡ a → topTurn at carry held c cs next ≡ toppedBy a at (topped carry held c) held c cs next
-  tops-by a e = ap (λ (b : TopUpAnswer). toppedBy b at (topped carry held c) held c cs next) e
+  tops-by : (a : TopUpAnswer) → topUpAnswer carry held c ≡ a → topTurn at carry held c cs next ≡ runTopped a at (topped carry held c) held c cs next
+  tops-by a e = ap (λ (b : TopUpAnswer). runTopped b at (topped carry held c) held c cs next) e
 
   top-roomy : 255 ≤ length (topped carry held c)
   top-roomy = omega (arith, need .room, top-long carry held c)
@@ -204,7 +201,7 @@ module _ (at : ℕ) (carry : List ℕ) (held : ℕ) (c : List ℕ) (cs : List (L
       let fits : held + length c ≤ 255 = omega (arith, more-few _ _ _ e, hand-long carry held c (need .room) (need .count)) in
       let picks = pick-by (topped carry held c) (held + length c) (drop (length c) c) top-roomy fits ∙ either (ltb 0 (held + length c)) refl in
       tops-by _ (top-more carry held c (need .room) (need .count) e)
-      ∙ ap (λ (a : PickAnswer). pickedBy a at (topped carry held c) (held + length c) (drop (length c) c) cs next) picks
+      ∙ ap (λ (a : PickAnswer). runPicked a at (topped carry held c) (held + length c) (drop (length c) c) cs next) picks
     where
       either : (t : Bool) → ltb 0 (held + length c) ≡ t
           → pick t (fromCarry (startAnswer (take (held + length c) (topped carry held c)))) (fromChunk (startAnswer (drop (length c) c))) ≡ PickAnswer.More
@@ -230,7 +227,7 @@ module _ (at : ℕ) (carry : List ℕ) (held : ℕ) (c : List ℕ) (cs : List (L
       let part : pickPart after (held + (n - held)) left ≡ take n (onHand carry held c) =
       part-of after (held + (n - held)) left _ picks ∙ (ap (λ (k : ℕ). take k after) (sym sum) ∙ held-now) in
       tops-by _ answer
-      ∙ (ap (λ (a : PickAnswer). pickedBy a at after (held + (n - held)) left cs next) picks
+      ∙ (ap (λ (a : PickAnswer). runPicked a at after (held + (n - held)) left cs next) picks
       ∙ ap (λ (x : List ℕ). handed x (next (at + n) after 0 (left ∷ cs))) part)
 
 top-lawful : Lawful topTurn topped

@@ -1,17 +1,21 @@
--- What picking hands out is a whole frame or nothing; after a step that tells of a frame it is that frame. Assumes nothing.
-use Prim.Native.Nat.{ℕ, _+_, _<_, _≤_}
+-- What picking hands out is a whole frame or nothing; after a step that tells of a frame it is that frame. Picking and topping up
+-- by what stands there. Assumes nothing.
+use Prim.Native.Nat.{ℕ, zero, suc, _+_, _<_, _≤_}
 use mathlib.Core.Path.{_≡_, refl, sym, ap, subst, _∙_}
-use mathlib.Core.List.{List}
+use mathlib.Core.List.{List, _++_}
 use native.Mathlib.Omega.{arith}
 use native.Mathlib.Decide.{decLt}
 use borrow.Author.Tests.{lt-ltb}
 use lib.Dec.{ltb, eqb}
-use lib.ListN.{length, take, length-take}
+use lib.ListN.{length, take, length-append, length-take}
 use lib.Seq.{length-take-le, take-take, take-append-seam}
+use Rattle.laws.specs.Choice.{pick}
 use Rattle.laws.proofs.Choices.{picked}
+use Rattle.elements.specs.Refusals.{refusal}
+use Rattle.elements.specs.declared.refusals.Refusal.{Refusal}
 use Rattle.assembly.specs.Start.{startAnswer, carryRefusal}
-use Rattle.assembly.specs.Picking.{fromCarry, fromChunk, pickAnswer, pickLength, pickPartBy, pickPart}
-use Rattle.assembly.specs.Topping.{onHand}
+use Rattle.assembly.specs.Picking.{fromCarry, fromChunk, pickAnswer, pickNumber, pickLength, pickPartBy, pickPart}
+use Rattle.assembly.specs.Topping.{onHand, topUpNumber, topped}
 use Rattle.assembly.specs.Stepping.{stepAnswer, stepNumber, stepMoved, stepLength, stepCarry}
 use Rattle.assembly.specs.declared.start.StartAnswer.{StartAnswer}
 use Rattle.assembly.specs.declared.start.StartAnswer.the-variants.{Whole, More, Refused}
@@ -19,9 +23,9 @@ use Rattle.assembly.specs.declared.picking.PickAnswer.{PickAnswer}
 use Rattle.assembly.specs.declared.picking.PickAnswer.the-variants as PickAnswer
 use Rattle.assembly.specs.declared.stepping.StepAnswer.{StepAnswer}
 use Rattle.assembly.proofs.Sights.{frame-of, first-whole, start-short}
-use Rattle.assembly.proofs.Steps.{Needing, held-long, pick-by, step-chunk, step-carry, carry-long, holds-frame}
-use Rattle.promises.specs.Streams.{IsFrame, HandsBack, PickedBy, Picked}
-use Rattle.promises.proofs.Starts.{frame-whole, unfinished-more}
+use Rattle.assembly.proofs.Steps.{Needing, held-long, pick-by, top-more, top-whole, top-refused, step-chunk, step-carry, carry-long, holds-frame}
+use Rattle.promises.specs.Streams.{IsFrame, HandsBack, PickedBy, Picked, pickedFrom, Picks, TopsUp}
+use Rattle.promises.proofs.Starts.{frame-whole, unfinished-more, refuses-refused}
 use Rattle.promises.proofs.Cuts.{is-frame}
 
 pub part-of : (carry : List ℕ) (held : ℕ) (chunk : List ℕ) (a : PickAnswer) → pickAnswer carry held chunk ≡ a → pickPart carry held chunk ≡ pickPartBy a carry chunk
@@ -102,3 +106,53 @@ module _ (carry : List ℕ) (held : ℕ) (chunk : List ℕ) where
 pub picks-frames : (carry : List ℕ) (held : ℕ) (chunk : List ℕ) → Picked carry held chunk
 unfolding pickPart
 picks-frames carry held chunk = let t = told carry held chunk in record { frame = t .0; long = t .1 }
+
+-- ---- picking and topping up by what stands there
+
+module _ (carry : List ℕ) (held : ℕ) (chunk : List ℕ) (room : 255 ≤ length carry) (count : held ≤ 255) where
+  -- the answer to what stands at the start of what is picked from, as one that names which
+  abbrev named : ℕ → StartAnswer → PickAnswer
+  named zero a = fromChunk a
+  named (suc n) a = fromCarry a
+
+  pick-named : pickAnswer carry held chunk ≡ named held (startAnswer (pickedFrom carry held chunk))
+  pick-named = pick-by carry held chunk room count ∙ by held
+    where
+      by : (k : ℕ) → pick (ltb 0 k) (fromCarry (startAnswer (take k carry))) (fromChunk (startAnswer chunk)) ≡ named k (startAnswer (pickedFrom carry k chunk))
+      by zero = refl
+      by (suc k) = rw (lt-ltb 0 (suc k) (omega arith))
+
+  picks-as : (a : StartAnswer) → startAnswer (pickedFrom carry held chunk) ≡ a → pickAnswer carry held chunk ≡ named held a
+  picks-as a e = pick-named ∙ ap (named held) e
+
+  named-more : (k : ℕ) → named k More ≡ PickAnswer.More
+  named-more zero = refl
+  named-more (suc k) = refl
+
+  named-number : (k : ℕ) (r : Refusal) → pickNumber (named k (Refused r)) ≡ r .0
+  named-number zero r = refl
+  named-number (suc k) r = refl
+
+  named-part : (k : ℕ) (f r : List ℕ) → pickedFrom carry k chunk ≡ f ++ r → pickPartBy (named k (Whole (length f))) carry chunk ≡ f
+  named-part zero f r e = ap (take (length f)) e ∙ take-append-seam f r
+  named-part (suc k) f r e =
+      let fits : length f ≤ suc k = omega (arith, ap length e, length-append f r, length-take (suc k) carry) in
+      sym (take-take (length f) (suc k) carry fits) ∙ (ap (take (length f)) e ∙ take-append-seam f r)
+
+  pub picks : Picks carry held chunk
+  picks = record {
+    whole = λ f r i e.
+        part-of carry held chunk _ (picks-as (Whole (length f)) (ap (λ (s : List ℕ). startAnswer s) e ∙ frame-whole f r i))
+        ∙ named-part held f r e;
+    more = λ u. picks-as More (unfinished-more _ u) ∙ named-more held;
+    refuses = λ n k. ap pickNumber (picks-as (Refused (refusal n)) (refuses-refused _ n k)) ∙ named-number held (refusal n);
+  }
+
+  pub tops-up : TopsUp carry held chunk
+  unfolding topped
+  tops-up = record {
+    whole = λ f r i e. top-whole carry held chunk room count (length f) (ap (λ (s : List ℕ). startAnswer s) e ∙ frame-whole f r i);
+    more = λ u. top-more carry held chunk room count (unfinished-more _ u);
+    refuses = λ n k. ap topUpNumber (top-refused carry held chunk room count (refusal n) (refuses-refused _ n k));
+    stored = refl;
+  }

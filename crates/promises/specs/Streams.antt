@@ -1,12 +1,13 @@
 -- Assembling. The sentences are document 01's; docs/PROMISES.md has them side by side with these statements.
-use Prim.Native.Nat.{ℕ, zero, suc, _+_, _<_, _≤_}
+use Prim.Native.Nat.{ℕ, zero, suc, _+_, _-_, _<_, _≤_}
 use mathlib.Core.Path.{_≡_}
 use mathlib.Core.Logic.{_↔_}
 use mathlib.Core.List.{List, [], _∷_, _++_}
 use lib.ListN.{length, getD, take, drop}
+use lib.Seq.{sets}
 use Rattle.assembly.specs.Start.{startAnswer, startNumber, startLength}
-use Rattle.assembly.specs.Picking.{pickAnswer, pickLength, pickPart}
-use Rattle.assembly.specs.Topping.{topUpAnswer, topped}
+use Rattle.assembly.specs.Picking.{pickAnswer, pickNumber, pickLength, pickPart}
+use Rattle.assembly.specs.Topping.{topUpAnswer, topUpNumber, movedIn, topped}
 use Rattle.assembly.specs.Stepping.{stepAnswer, stepNumber, stepMoved, stepLength, stepCarry}
 use Rattle.assembly.specs.Streams.{End, rest, refused, StreamOutcome, noFrames, handed, stream, joined}
 use Rattle.assembly.specs.declared.picking.PickAnswer.{PickAnswer}
@@ -89,12 +90,16 @@ OneOutcome = (outcome : List ℕ → StreamOutcome) → Outcomes outcome → (s 
 
 -- ---- the procedure
 
--- how a caller goes on: `at` bytes of the stream are handed out, the carry's buffer holds so many bytes, these chunks are to come
+-- how a caller goes on: so many bytes of the stream are handed out; the carry's buffer, and how many bytes it holds; the chunks to come
 abbrev pub Next : Type 0
 Next = ℕ → List ℕ → ℕ → List (List ℕ) → StreamOutcome
 
--- A turn for each chunk until it is used up; what the carry holds after the last is left over. The first number bounds the turns.
-abbrev pub turns : (ℕ → List ℕ → ℕ → List ℕ → List (List ℕ) → Next → StreamOutcome) → ℕ → Next
+-- a turn of the caller's loop on a chunk, with those to come after it
+abbrev pub Turn : Type 0
+Turn = ℕ → List ℕ → ℕ → List ℕ → List (List ℕ) → Next → StreamOutcome
+
+-- Turns on each chunk until it is used up; what the carry holds after the last is left over. The first number bounds the turns.
+abbrev pub turns : Turn → ℕ → Next
 turns turn zero at carry held cs = noFrames (rest (take held carry))
 turns turn (suc most) at carry held [] = noFrames (rest (take held carry))
 turns turn (suc most) at carry held (c ∷ cs) = turn at carry held c cs (turns turn most)
@@ -107,13 +112,13 @@ enough (c ∷ cs) = suc (length c) + enough cs
 -- What a caller does with the answer to a step on the chunk c: it takes the frame that is picked from the chunk and goes on after
 -- it; or it takes the one that is picked from the carry, empties the carry and goes on with the rest of the chunk; or it goes on
 -- with the next chunk; or it stops. The buffer of the carry is as the step left it.
-abbrev pub runBy : StepAnswer → ℕ → List ℕ → ℕ → List ℕ → List (List ℕ) → Next → StreamOutcome
+abbrev pub runBy : StepAnswer → Turn
 runBy (Chunk n) at carry held c cs next = handed (pickPart carry held c) (next (at + n) carry 0 (drop n c ∷ cs))
 runBy (Carry m n) at carry held c cs next = handed (pickPart carry (held + m) c) (next (at + n) carry 0 (drop m c ∷ cs))
 runBy (More m) at carry held c cs next = next at carry (held + m) cs
 runBy (Refused r) at carry held c cs next = noFrames (refused (r .0) at)
 
-abbrev pub stepTurn : ℕ → List ℕ → ℕ → List ℕ → List (List ℕ) → Next → StreamOutcome
+abbrev pub stepTurn : Turn
 stepTurn at carry held c cs next = runBy (stepAnswer carry held c) at (stepCarry carry held c) held c cs next
 
 -- from an empty carry on, whatever its buffer holds
@@ -127,20 +132,20 @@ CutIndependent = (carry : List ℕ) (chunks : List (List ℕ)) → 255 ≤ lengt
 -- ---- topping up first
 
 -- A caller who wants another order tops up at once, and picks then from the carry and the rest of the chunk, here c.
-abbrev pub pickedBy : PickAnswer → ℕ → List ℕ → ℕ → List ℕ → List (List ℕ) → Next → StreamOutcome
-pickedBy (PickAnswer.Carry n) at carry held c cs next = handed (pickPart carry held c) (next (at + n) carry 0 (c ∷ cs))
-pickedBy (PickAnswer.Chunk n) at carry held c cs next = handed (pickPart carry held c) (next (at + n) carry held (drop n c ∷ cs))
-pickedBy PickAnswer.More at carry held c cs next = next at carry held cs
-pickedBy (PickAnswer.Refused r) at carry held c cs next = noFrames (refused (r .0) at)
+abbrev pub runPicked : PickAnswer → Turn
+runPicked (PickAnswer.Carry n) at carry held c cs next = handed (pickPart carry held c) (next (at + n) carry 0 (c ∷ cs))
+runPicked (PickAnswer.Chunk n) at carry held c cs next = handed (pickPart carry held c) (next (at + n) carry held (drop n c ∷ cs))
+runPicked PickAnswer.More at carry held c cs next = next at carry held cs
+runPicked (PickAnswer.Refused r) at carry held c cs next = noFrames (refused (r .0) at)
 
 -- the buffer of the carry is as topping up left it
-abbrev pub toppedBy : TopUpAnswer → ℕ → List ℕ → ℕ → List ℕ → List (List ℕ) → Next → StreamOutcome
-toppedBy (TopUpAnswer.Moved m) at carry held c cs next =
-    pickedBy (pickAnswer carry (held + m) (drop m c)) at carry (held + m) (drop m c) cs next
-toppedBy (TopUpAnswer.Refused r) at carry held c cs next = noFrames (refused (r .0) at)
+abbrev pub runTopped : TopUpAnswer → Turn
+runTopped (TopUpAnswer.Moved m) at carry held c cs next =
+    runPicked (pickAnswer carry (held + m) (drop m c)) at carry (held + m) (drop m c) cs next
+runTopped (TopUpAnswer.Refused r) at carry held c cs next = noFrames (refused (r .0) at)
 
-abbrev pub topTurn : ℕ → List ℕ → ℕ → List ℕ → List (List ℕ) → Next → StreamOutcome
-topTurn at carry held c cs next = toppedBy (topUpAnswer carry held c) at (topped carry held c) held c cs next
+abbrev pub topTurn : Turn
+topTurn at carry held c cs next = runTopped (topUpAnswer carry held c) at (topped carry held c) held c cs next
 
 unfoldable pub runTopping : List ℕ → List (List ℕ) → StreamOutcome
 runTopping carry chunks = turns topTurn (enough chunks) 0 carry 0 chunks
@@ -184,6 +189,28 @@ pub record Picked (carry : List ℕ) (held : ℕ) (chunk : List ℕ) : Type 0 wh
   pub frame : PickedBy (pickAnswer carry held chunk) (pickPart carry held chunk)
   pub long : length (pickPart carry held chunk) ≡ pickLength (pickAnswer carry held chunk)
 
+-- ---- picking and topping up, each by itself, with a carry that is not refused
+
+-- "for picking the one it picks from": the held bytes, or the chunk where none are held
+abbrev pub pickedFrom : List ℕ → ℕ → List ℕ → List ℕ
+pickedFrom carry zero chunk = chunk
+pickedFrom carry (suc n) chunk = take (suc n) carry
+
+-- it hands out the frame that stands there, and refuses what is refused there
+pub record Picks (carry : List ℕ) (held : ℕ) (chunk : List ℕ) : Type 0 where
+  pub whole : (f r : List ℕ) → IsFrame f → pickedFrom carry held chunk ≡ f ++ r → pickPart carry held chunk ≡ f
+  pub more : Unfinished (pickedFrom carry held chunk) → pickAnswer carry held chunk ≡ PickAnswer.More
+  pub refuses : (number : ℕ) → Refuses (pickedFrom carry held chunk) number → pickNumber (pickAnswer carry held chunk) ≡ number
+
+-- "On hand is the carry followed by the chunk for topping up". It moves what is missing of the frame that stands there; or all of
+-- the chunk, where more is needed; or it refuses what is refused there, and leaves the carry as it was.
+pub record TopsUp (carry : List ℕ) (held : ℕ) (chunk : List ℕ) : Type 0 where
+  pub whole : (f r : List ℕ) → IsFrame f → take held carry ++ chunk ≡ f ++ r
+      → topUpAnswer carry held chunk ≡ TopUpAnswer.Moved (length f - held)
+  pub more : Unfinished (take held carry ++ chunk) → topUpAnswer carry held chunk ≡ TopUpAnswer.Moved (length chunk)
+  pub refuses : (number : ℕ) → Refuses (take held carry ++ chunk) number → topUpNumber (topUpAnswer carry held chunk) ≡ number
+  pub stored : topped carry held chunk ≡ sets carry held (take (movedIn (topUpAnswer carry held chunk)) chunk)
+
 -- ---- all of it
 
 pub record StreamLevel : Type 0 where
@@ -196,3 +223,5 @@ pub record StreamLevel : Type 0 where
   pub uncopied : InPlace
   pub part : HandsBack
   pub picked : (carry : List ℕ) (held : ℕ) (chunk : List ℕ) → Picked carry held chunk
+  pub picks : (carry : List ℕ) (held : ℕ) (chunk : List ℕ) → 255 ≤ length carry → held ≤ 255 → Picks carry held chunk
+  pub tops-up : (carry : List ℕ) (held : ℕ) (chunk : List ℕ) → 255 ≤ length carry → held ≤ 255 → TopsUp carry held chunk
