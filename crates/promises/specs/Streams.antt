@@ -90,7 +90,8 @@ OneOutcome = (outcome : List ℕ → StreamOutcome) → Outcomes outcome → (s 
 
 -- ---- the procedure
 
--- how a caller goes on: so many bytes of the stream are handed out; the carry's buffer, and how many bytes it holds; the chunks to come
+-- How a caller goes on, by how many bytes of the stream are handed out, the carry's buffer, how many bytes it holds, and the chunks
+-- to come.
 abbrev pub Next : Type 0
 Next = ℕ → List ℕ → ℕ → List (List ℕ) → StreamOutcome
 
