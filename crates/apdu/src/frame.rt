@@ -16,14 +16,14 @@ pub const MAX_LENGTH: u8 = 253;
 pub const ASDU_START: usize = 6;
 
 // Send and receive number, each a type of its own, so that they cannot be mixed.
-#[derive(Drop)]
+#[derive(Clone, Copy)]
 pub struct SendNumber(pub u16);
 
-#[derive(Drop)]
+#[derive(Clone, Copy)]
 pub struct ReceiveNumber(pub u16);
 
 // Start, stop and test of data transfer, each with its activation and its confirmation; reading takes none or several.
-#[derive(Drop)]
+#[derive(Clone, Copy)]
 pub struct UFrame {
     pub start_act: bool,
     pub start_con: bool,
@@ -33,7 +33,7 @@ pub struct UFrame {
     pub test_con: bool,
 }
 
-#[derive(Drop)]
+#[derive(Clone, Copy)]
 pub enum FrameAnswer {
     I(SendNumber, ReceiveNumber),
     S(ReceiveNumber),

@@ -19,7 +19,7 @@ pub const MAX_SIZE: usize = 249;
 // The count has seven bits.
 pub const MAX_OBJECTS: usize = 127;
 
-#[derive(Drop)]
+#[derive(Clone, Copy)]
 pub struct Header {
     pub kind: Kind,
     pub count: usize,
@@ -31,7 +31,7 @@ pub struct Header {
     pub address: u16,
 }
 
-#[derive(Drop)]
+#[derive(Clone, Copy)]
 pub enum HeaderAnswer {
     Header(Header),
     Refused(Refusal),

@@ -1,5 +1,7 @@
 // The ASDU of IEC 60870-5-101 within document 01's limits: at most 249 octets, at most 127 objects of one carried type.
 // Reading, writing, plain form and walking stand in crates of their own: asdu_read, asdu_write, asdu_plain and asdu_walk.
+#![tactic(auto)]
+
 pub mod checking;
 pub mod header;
 
@@ -7,7 +9,7 @@ use elements::refusals::Refusal;
 use objects::Object;
 
 // The record of an ASDU. What stands in `objects` past `count` is blank when read and ignored when written.
-#[derive(Drop)]
+#[derive(Clone, Copy)]
 pub struct Asdu {
     pub objects: [Object; 127],
     pub count: usize,
@@ -20,28 +22,28 @@ pub struct Asdu {
     pub address: u16,
 }
 
-#[derive(Drop)]
+#[derive(Clone, Copy)]
 pub enum Answer {
     Accepted,
     Refused(Refusal),
 }
 
 // What reading answers; the record is all 0 and clear beside a refusal.
-#[derive(Drop)]
+#[derive(Clone, Copy)]
 pub struct ReadAsdu {
     pub asdu: Asdu,
     pub answer: Answer,
 }
 
 // How many octets were written, or why none.
-#[derive(Drop)]
+#[derive(Clone, Copy)]
 pub enum WriteAnswer {
     Octets(usize),
     Refused(Refusal),
 }
 
 // Whether writing the reading of an ASDU or a frame gives the same octets, or some have reserved bits set, or it does not read.
-#[derive(Drop)]
+#[derive(Clone, Copy)]
 pub enum PlainAnswer {
     Plain,
     Reserved,

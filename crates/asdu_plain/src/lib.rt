@@ -1,4 +1,6 @@
 // Plain form of an ASDU: whether writing its reading gives the same octets, found in place.
+#![tactic(auto)]
+
 ghost use Rattle.std.specs.Prelude.{◌≡◌, ◌≤◌};
 ghost use Rattle.objects.specs.Kinds.{form_of};
 ghost use Rattle.asdu.specs.Plain.{has_reserved, plain_form, plain_objects, plain_answer};

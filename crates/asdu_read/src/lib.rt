@@ -1,5 +1,7 @@
 // Reading an ASDU to its record (asdu.rs, `Asdu::parse`). Where the Rust used the question mark, an answer is taken apart
 // and a refusal leaves at once.
+#![tactic(auto)]
+
 ghost use Rattle.std.specs.Prelude.{◌≡◌, ◌+◌, ◌≤◌, drop};
 ghost use Rattle.laws.specs.Choice.{pick};
 ghost use Rattle.laws.specs.Numbers.{le_of};

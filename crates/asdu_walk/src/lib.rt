@@ -1,5 +1,7 @@
 // A walk over the objects of an ASDU: one after the other, with no record built. `Walk` keeps the ASDU and a place, and its
 // functions are thin over those on a slice and a place. Whoever loops calls `start`, `object_from` and `Place::after`.
+#![tactic(auto)]
+
 ghost use Rattle.std.specs.Prelude.{◌≡◌, ◌+◌, ◌≤◌, drop};
 ghost use Rattle.laws.specs.Choice.{pick};
 ghost use Rattle.laws.specs.Numbers.{le_of};
@@ -14,7 +16,7 @@ use objects::kinds::{Kind, KindAnswer};
 use objects::{Object, kinds, values};
 
 // What a walk finds at its place.
-#[derive(Drop)]
+#[derive(Clone, Copy)]
 pub enum Found {
     Object(Object),
     End,
@@ -34,13 +36,13 @@ impl Found {
 }
 
 // Where a walk stands: at the object of an index, or at the refusal of an ASDU that does not read. So it is checked once.
-#[derive(Drop)]
+#[derive(Clone, Copy)]
 pub struct Place {
     refusal: Refusal,
     index: u8,
 }
 
-#[derive(Drop)]
+#[derive(Clone, Copy)]
 pub struct Walk<'a> {
     asdu: &'a [u8],
     place: Place,

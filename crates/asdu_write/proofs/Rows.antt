@@ -63,10 +63,10 @@ module _ (n i : ℕ) (l : List Object) (g : n ≤ length l) where
 
     -- object i's refusal, as the code tests it
     module _ {w : Refusal} {b : Bool} (h : i < n) (is : w ≡ refusal (object_refusal k q first i (get_or l i blank))) (tested : b ≡ eqb w.0 0) where
-      pub refusal-here : not b ≡ true → w ≡ refusal (first_refusal k q first i (drop i (take n l)))
+      pub refusal-here : b ≡ false → w ≡ refusal (first_refusal k q first i (drop i (take n l)))
       refusal-here t = stops here after is tested t ∙ ap refusal (sym (refusal-more h))
 
-      pub refusal-after : not b ≡ false → first_refusal k q first (i + 1) (drop (i + 1) (take n l)) ≡ first_refusal k q first i (drop i (take n l))
+      pub refusal-after : b ≡ true → first_refusal k q first (i + 1) (drop (i + 1) (take n l)) ≡ first_refusal k q first i (drop i (take n l))
       refusal-after t = goes here after is tested t ∙ sym (refusal-more h)
 
     pub refusal-end : n ≤ i → first_refusal k q first i (drop i (take n l)) ≡ 0

@@ -1,4 +1,6 @@
 // Writing an ASDU into a lent output (asdu.rs, `Asdu::to_bytes`).
+#![tactic(auto)]
+
 ghost use Rattle.std.specs.Prelude.{◌≡◌, false, ◌+◌, ◌≤◌, ◌<◌, length, drop};
 ghost use Rattle.std.proofs.lemmas.List.Edits.{sets};
 ghost use Rattle.elements.specs.Refusals.{refusal};

@@ -7,7 +7,7 @@ use crate::start::StartAnswer;
 use elements::refusals::Refusal;
 
 // The carry or the chunk begins with a whole frame of so many bytes, or more is needed.
-#[derive(Drop)]
+#[derive(Clone, Copy)]
 pub enum PickAnswer {
     Carry(usize),
     Chunk(usize),

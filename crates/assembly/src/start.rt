@@ -20,7 +20,7 @@ pub const MAX_SIZE: usize = 255;
 // With fewer bytes on hand nothing is refused.
 pub const ENOUGH: usize = 3;
 
-#[derive(Drop)]
+#[derive(Clone, Copy)]
 pub enum StartAnswer {
     Whole(usize),
     More,

@@ -9,7 +9,7 @@ use elements::refusals::Refusal;
 
 // A frame of n bytes at the chunk's start, which the caller goes on after; or the first number of bytes was moved and
 // the carry holds a frame of the second, after which the caller empties it; or all of the chunk was moved and more is needed.
-#[derive(Drop)]
+#[derive(Clone, Copy)]
 pub enum StepAnswer {
     Chunk(usize),
     Carry(usize, usize),

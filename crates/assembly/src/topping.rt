@@ -6,7 +6,7 @@ ghost use Rattle.assembly.specs.Topping.{on_hand, top_up_refusal, moving, top_up
 use crate::start;
 use elements::refusals::Refusal;
 
-#[derive(Drop)]
+#[derive(Clone, Copy)]
 pub enum TopUpAnswer {
     Moved(usize),
     Refused(Refusal),

@@ -1,5 +1,7 @@
 // The calls on frames that the host times (host/src/bench.rs), as C functions: for tests only. Each calls the library as
 // a user would and lets the record go where it was made: the host gets a number that depends on it, and no copy.
+#![tactic(auto)]
+
 use apdu::frame::{FrameAnswer, ReceiveNumber, SendNumber};
 use apdu::{reading, writing};
 use asdu::{PlainAnswer, WriteAnswer};

@@ -1,5 +1,7 @@
 // Walking over an ASDU's objects as a C function that the host times (host/src/bench.rs): for tests only. It is apart from
 // bench_bridge, so that each is compiled as in a program that either walks or reads to a record (decision 50).
+#![tactic(auto)]
+
 use apdu::reading;
 use asdu::header::MAX_OBJECTS;
 use asdu_walk::Found;

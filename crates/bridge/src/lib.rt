@@ -2,6 +2,8 @@
 // element is the list of its fields (bridge_records, fields.rt). What may be refused is written to `out`, with the
 // number of the refusal as the result, 0 for none. A list that is too short reads as 0 and takes nothing past its
 // end, so no call can fail. Frames are in `bridge_frames`.
+#![tactic(auto)]
+
 pub mod asdus;
 pub mod walks;
 

@@ -1,5 +1,7 @@
 // Frames of the proved library for the programs that test it, beside crate `bridge`: records, and answers as numbers,
 // as bridge_records has them.
+#![tactic(auto)]
+
 mod fields;
 
 use apdu::frame::{FrameAnswer, ReceiveNumber, SendNumber};

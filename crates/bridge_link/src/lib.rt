@@ -1,5 +1,7 @@
 // The link of the proved library for the programs that test it. The caller keeps a link as a list of 74 numbers
 // (bridge_cells). Each function answers document 01's number of refusal, 0 for none.
+#![tactic(auto)]
+
 use bridge_cells::{called, cells};
 use link_state::opening;
 

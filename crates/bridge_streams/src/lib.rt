@@ -1,5 +1,7 @@
 // Assembling of the proved library for the programs that test it, beside crates `bridge` and `bridge_frames`. An answer is
 // a number: that of the refusal; or what it is, how many bytes were moved, and how many the frame has.
+#![tactic(auto)]
+
 use assembly::picking::PickAnswer;
 use assembly::stepping::StepAnswer;
 use assembly::topping::TopUpAnswer;

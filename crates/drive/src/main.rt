@@ -20,6 +20,8 @@
 // was written, whether the window is full, whether an ASDU came, how many frames are outstanding and how many ASDUs wait,
 // whether the link is closed and by which number. `-` stands for an empty HEX, a mark is 0 or 1, other numbers are decimal
 // and have 64 bits. Any other line is `bad`.
+#![tactic(auto)]
+
 mod links;
 
 use drive_link::commands;
@@ -30,7 +32,7 @@ use test_text::{answers, text};
 // The longest answer, of a link that hands out 16 full frames, has under 8,300 bytes.
 const ANSWER_SIZE: usize = 8320;
 
-#[derive(Drop)]
+#[derive(Clone, Copy)]
 struct Input {
     going: bool,
     // Bytes of a line whose end has not come.

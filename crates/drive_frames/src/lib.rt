@@ -1,4 +1,6 @@
 // The commands of `drive` on the octets of a frame or an ASDU, answered in text at the start of a lent buffer.
+#![tactic(auto)]
+
 mod asdus;
 mod frames;
 mod written;

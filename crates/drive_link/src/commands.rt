@@ -1,14 +1,14 @@
 // Commands by their names.
 
 // What is told a moment alone.
-#[derive(Drop)]
+#[derive(Clone, Copy)]
 pub enum Timed {
     Stop,
     Test,
     Tick,
 }
 
-#[derive(Drop)]
+#[derive(Clone, Copy)]
 pub enum Command {
     Open,
     Receive,

@@ -1,4 +1,6 @@
 // The commands of `drive` on a stream: `topup` and `pick`, on a carry of 255 bytes and a chunk.
+#![tactic(auto)]
+
 use assembly::picking::PickAnswer;
 use assembly::topping::TopUpAnswer;
 use assembly::{picking, topping};
@@ -7,7 +9,7 @@ use test_text::{answers, hex, text};
 
 const CARRY_SIZE: usize = 255;
 
-#[derive(Drop)]
+#[derive(Clone, Copy)]
 enum PairAnswer {
     Octets(usize, usize),
     Bad,

@@ -1,4 +1,6 @@
 // An information object as text: a space, its address, a colon and the fields of its value by their names.
+#![tactic(auto)]
+
 use elements::information_elements::{Coi, Diq, Siq, Vti};
 use elements::numbers;
 use elements::quality_descriptors::{Qds, SeqQd};

@@ -8,7 +8,7 @@ use crate::numbers;
 use crate::quality_descriptors::Qds;
 use crate::refusals::{OctetAnswer, PairAnswer, Refusal};
 
-#[derive(Drop)]
+#[derive(Clone, Copy)]
 pub enum Spi {
     Off,
     On,
@@ -35,7 +35,7 @@ impl Spi {
     }
 }
 
-#[derive(Drop)]
+#[derive(Clone, Copy)]
 pub struct Siq {
     pub iv: bool,
     pub nt: bool,
@@ -69,7 +69,7 @@ impl Siq {
     }
 }
 
-#[derive(Drop)]
+#[derive(Clone, Copy)]
 pub enum Dpi {
     Indeterminate,
     Off,
@@ -102,7 +102,7 @@ impl Dpi {
     }
 }
 
-#[derive(Drop)]
+#[derive(Clone, Copy)]
 pub struct Diq {
     pub iv: bool,
     pub nt: bool,
@@ -137,7 +137,7 @@ impl Diq {
 }
 
 // Value with transient state indication: seven signed bits and a mark, then the quality.
-#[derive(Drop)]
+#[derive(Clone, Copy)]
 pub struct Vti {
     pub value: i8,
     pub transient: bool,
@@ -184,7 +184,7 @@ impl Vti {
 }
 
 // Cause of initialisation: the whole octet, with three causes named.
-#[derive(Drop)]
+#[derive(Clone, Copy)]
 pub enum Coi {
     LocalPowerOn,
     LocalManualReset,

@@ -4,7 +4,7 @@ ghost use Rattle.elements.specs.Quality.{qds_of, qds_octet, seq_qd_of, seq_qd_an
 
 use crate::refusals::{OctetAnswer, Refusal};
 
-#[derive(Drop)]
+#[derive(Clone, Copy)]
 pub struct Qds {
     pub iv: bool,
     pub nt: bool,
@@ -37,7 +37,7 @@ impl Qds {
     }
 }
 
-#[derive(Drop)]
+#[derive(Clone, Copy)]
 pub struct SeqQd {
     pub iv: bool,
     pub ca: bool,

@@ -2,17 +2,17 @@
 ghost use Rattle.std.specs.Prelude.{◌≡◌, eqb};
 ghost use Rattle.elements.specs.Refusals.{refusal, octet_number, octet_in, pair_number, pair_first, pair_second};
 
-#[derive(Drop)]
+#[derive(Clone, Copy)]
 pub struct Refusal(pub u8);
 
 // What writing one octet answers, and what writing two.
-#[derive(Drop)]
+#[derive(Clone, Copy)]
 pub enum OctetAnswer {
     Octet(u8),
     Refused(Refusal),
 }
 
-#[derive(Drop)]
+#[derive(Clone, Copy)]
 pub enum PairAnswer {
     Octets(u8, u8),
     Refused(Refusal),

@@ -6,7 +6,7 @@ use mathlib.Core.Logic.{◌⊎◌, inl, inr, ◌↔◌, ⊎_elim}
 use native.Mathlib.Omega.{arith}
 use native.Mathlib.Decide.{dec_lt}
 use lib.Dec.{leb, eqb}
-use borrow.Author.Tests.{leb-true, le-leb, eqb-true, eq-eqb, not-true, not-false}
+use borrow.Author.Tests.{leb-true, le-leb, eqb-true, eq-eqb}
 use Rattle.laws.specs.Lists.{every}
 
 pub leb_iff : (a b : ℕ) → (leb a b ≡ true) ↔ (a ≤ b)
@@ -44,8 +44,8 @@ every_iff t (suc n) = (
 )
 
 -- a test that a call made, and that a branch looked at
-pub failed : {a b : Bool} → a ≡ b → not a ≡ true → b ≡ false
-failed e h = sym e ∙ not-true _ h
+pub failed : {a b : Bool} → a ≡ b → a ≡ false → b ≡ false
+failed e h = sym e ∙ h
 
-pub holds : {a b : Bool} → a ≡ b → not a ≡ false → b ≡ true
-holds e h = sym e ∙ not-false _ h
+pub holds : {a b : Bool} → a ≡ b → a ≡ true → b ≡ true
+holds e h = sym e ∙ h

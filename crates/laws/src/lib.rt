@@ -1,5 +1,7 @@
 // What every crate needs of octets: numbers of 2, 3 and 4 octets, the lowest octet first, and octets copied to a place.
 // All are total: an octet past the end reads as 0, and one written past the end changes nothing.
+#![tactic(auto)]
+
 ghost use Rattle.std.specs.Prelude.{◌≡◌, ◌-◌, ◌%◌, ◌<◌, ◌≤◌, min, drop, get_or, set};
 ghost use Rattle.std.proofs.lemmas.List.Edits.{sets};
 ghost use Rattle.laws.specs.Bits.{num};

@@ -7,34 +7,34 @@ use elements::refusals::Refusal;
 use link_state::{Link, State};
 
 // An accepted call: how many octets were written, whether the window is full, and whether an ASDU came with the frame.
-#[derive(Drop)]
+#[derive(Clone, Copy)]
 pub struct Done {
     pub written: usize,
     pub full: bool,
     pub came: bool,
 }
 
-#[derive(Drop)]
+#[derive(Clone, Copy)]
 pub enum LinkAnswer {
     Done(Done),
     Refused(Refusal),
 }
 
-#[derive(Drop)]
+#[derive(Clone, Copy)]
 pub struct Called {
     pub link: Link,
     pub answer: LinkAnswer,
 }
 
 // The same without the ring.
-#[derive(Drop)]
+#[derive(Clone, Copy)]
 pub struct Step {
     pub state: State,
     pub answer: LinkAnswer,
 }
 
 // A state, and how many octets of the output are written.
-#[derive(Drop)]
+#[derive(Clone, Copy)]
 pub struct Made {
     pub state: State,
     pub end: usize,

@@ -1,5 +1,7 @@
 // Frame: a frame received, with the mark "more to come". It is checked with no record built; its ASDU, if one came, is
 // had by reading the frame (`apdu::reading::asdu_of`).
+#![tactic(auto)]
+
 ghost use Rattle.std.specs.Prelude.{◌≡◌, ℕ, ◌+◌, ◌≤◌, List, length, false};
 ghost use Rattle.std.proofs.lemmas.List.Edits.{sets};
 ghost use Rattle.link.specs.Frames.{wire};

@@ -6,7 +6,7 @@ ghost use Rattle.link_state.specs.Acknowledging.{acknowledged, ack_number};
 use apdu::frame::{ReceiveNumber, SendNumber};
 use elements::refusals::Refusal;
 
-#[derive(Drop)]
+#[derive(Clone, Copy)]
 pub enum AckAnswer {
     Frees(usize),
     Refused(Refusal),

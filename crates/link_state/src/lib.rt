@@ -1,5 +1,7 @@
 // The record of a link (receive_handler.rs, `ReceiveHandler`): by value, with the send times in a ring of its own.
 // What waits to be sent lies in a pool that the caller lends, in 16 slots of 249 octets.
+#![tactic(auto)]
+
 pub mod acknowledging;
 pub mod limits;
 pub mod opening;
@@ -8,7 +10,7 @@ use apdu::frame::{ReceiveNumber, SendNumber};
 use elements::refusals::Refusal;
 
 // k and w of IEC 60870-5-104, p the greatest number that may wait, the times in milliseconds.
-#[derive(Drop)]
+#[derive(Clone, Copy)]
 pub struct Settings {
     pub k: usize,
     pub w: u16,
@@ -19,7 +21,7 @@ pub struct Settings {
 }
 
 // I frames handed out and not confirmed yet: how many, the ring place of the oldest's send time, the next number.
-#[derive(Drop)]
+#[derive(Clone, Copy)]
 pub struct Window {
     pub first: usize,
     pub held: usize,
@@ -27,7 +29,7 @@ pub struct Window {
 }
 
 // ASDUs that wait: how many, the slot of the first, and at each slot the length of its ASDU.
-#[derive(Drop)]
+#[derive(Clone, Copy)]
 pub struct Queue {
     pub lengths: [usize; 16],
     pub place: usize,
@@ -35,21 +37,21 @@ pub struct Queue {
 }
 
 // The number that the next I frame received must have, and how many were received since the last confirming.
-#[derive(Drop)]
+#[derive(Clone, Copy)]
 pub struct Receive {
     pub next: ReceiveNumber,
     pub unconfirmed: u16,
 }
 
 // A time at which something is due, or unset.
-#[derive(Drop)]
+#[derive(Clone, Copy)]
 pub struct Deadline {
     pub on: bool,
     pub at: u64,
 }
 
 // t1 of U frames, t2 and t3, and how many test frames are open.
-#[derive(Drop)]
+#[derive(Clone, Copy)]
 pub struct Timers {
     pub t1u: Deadline,
     pub t2: Deadline,
@@ -58,14 +60,14 @@ pub struct Timers {
 }
 
 // Whether the link has ended, and the refusal that ended it: none for a stop.
-#[derive(Drop)]
+#[derive(Clone, Copy)]
 pub struct Status {
     pub closed: bool,
     pub reason: Refusal,
 }
 
 // The link without its ring.
-#[derive(Drop)]
+#[derive(Clone, Copy)]
 pub struct State {
     pub queue: Queue,
     pub settings: Settings,
@@ -76,7 +78,7 @@ pub struct State {
     pub clock: u64,
 }
 
-#[derive(Drop)]
+#[derive(Clone, Copy)]
 pub struct Link {
     pub times: [u64; 32],
     pub state: State,

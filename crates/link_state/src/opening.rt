@@ -7,14 +7,14 @@ use crate::{Deadline, Link, Queue, Receive, Settings, State, Status, Timers, Win
 use apdu::frame::{ReceiveNumber, SendNumber};
 use elements::refusals::Refusal;
 
-#[derive(Drop)]
+#[derive(Clone, Copy)]
 pub enum OpenAnswer {
     Opened,
     Refused(Refusal),
 }
 
 // What opening answers; beside a refusal the link is all 0, clear and unset.
-#[derive(Drop)]
+#[derive(Clone, Copy)]
 pub struct OpenedLink {
     pub link: Link,
     pub answer: OpenAnswer,

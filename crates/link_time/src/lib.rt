@@ -1,4 +1,6 @@
 // Stop, Test and Tick: what the user or the clock calls for. None of them changes the ring or the pool.
+#![tactic(auto)]
+
 ghost use Rattle.std.specs.Prelude.{◌≡◌, ℕ, ◌+◌, ◌≤◌, length, List};
 ghost use Rattle.std.proofs.lemmas.List.Edits.{sets};
 ghost use Rattle.link.specs.Frames.{wire};

@@ -2,7 +2,7 @@
 ghost use Rattle.std.specs.Prelude.{◌≡◌, ◌≤◌};
 ghost use Rattle.objects.specs.Kinds.{kind_of, type_of, size_of};
 
-#[derive(Drop)]
+#[derive(Clone, Copy)]
 pub enum Kind {
     MSpNa1,
     MDpNa1,
@@ -19,7 +19,7 @@ pub enum Kind {
     CRdNa1,
 }
 
-#[derive(Drop)]
+#[derive(Clone, Copy)]
 pub enum KindAnswer {
     Carried(Kind),
     NotCarried,

@@ -1,4 +1,6 @@
 // Information objects of IEC 60870-5-101, for the carried types: an address of three octets and an element.
+#![tactic(auto)]
+
 ghost use Rattle.std.specs.Prelude.{◌≡◌};
 ghost use Rattle.std.proofs.lemmas.List.Edits.{sets};
 ghost use Rattle.elements.specs.Refusals.{refusal};
@@ -16,14 +18,14 @@ use values::Value;
 // An address has three octets.
 pub const MAX_ADDRESS: u32 = 16_777_215;
 
-#[derive(Drop)]
+#[derive(Clone, Copy)]
 pub struct Object {
     pub address: u32,
     pub value: Value,
 }
 
 // What reading an object answers.
-#[derive(Drop)]
+#[derive(Clone, Copy)]
 pub enum ObjectAnswer {
     Object(Object),
     Refused(Refusal),

@@ -15,7 +15,7 @@ use elements::refusals::Refusal;
 
 // A bit string and an f32 are their 32 bits; the commands 100 and 101 are their octet. The quality stands before
 // 32 bits: so a value takes 12 octets of memory and an object 16 (docs/DECISIONS.md, decision 39).
-#[derive(Drop)]
+#[derive(Clone, Copy)]
 pub enum Value {
     MSpNa1(Siq),
     MDpNa1(Diq),

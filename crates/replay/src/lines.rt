@@ -14,7 +14,7 @@ const MAX_TOLD: usize = 2048;
 pub const MAX_LINE: usize = 4622;
 
 // Where the octets given begin, and how many are given and told.
-#[derive(Drop)]
+#[derive(Clone, Copy)]
 struct Shape {
     at: usize,
     given: usize,

@@ -1,6 +1,8 @@
 // Replays answers of the Rust crate iec104 0.6.0, so that `rt ci` holds the library to them with no Rust at hand.
 // Standard input is the stored sample, made by `tools/differential sample` (host/src/sample.rs, seed 104). Each line
 // that the library's answer does not agree with, or that is broken, is shown.
+#![tactic(auto)]
+
 mod asdus;
 mod digits;
 mod frames;
@@ -14,7 +16,7 @@ use test_text::text;
 
 const HEAD: usize = 12;
 
-#[derive(Drop)]
+#[derive(Clone, Copy)]
 struct Tally {
     going: bool,
     cases: u64,

@@ -3,7 +3,7 @@ ghost use Rattle.std.specs.Prelude.{◌≤◌};
 
 use crate::text;
 
-#[derive(Drop)]
+#[derive(Clone, Copy)]
 pub enum HexAnswer {
     Octets(usize),
     Bad,

@@ -1,5 +1,7 @@
 // Text for the programs that test the library: bytes put into a lent buffer, octets as hexadecimal digits, decimal numbers,
 // and the answers that say nothing more.
+#![tactic(auto)]
+
 pub mod answers;
 pub mod hex;
 pub mod numbers;

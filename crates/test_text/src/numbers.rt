@@ -1,7 +1,7 @@
 // Decimal numbers of 64 bits, read from text.
 use crate::text;
 
-#[derive(Drop)]
+#[derive(Clone, Copy)]
 struct Number {
     good: bool,
     value: u64,

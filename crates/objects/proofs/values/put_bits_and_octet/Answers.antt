@@ -1,0 +1,8 @@
+use mathlib.Core.Path.{◌∙◌}
+use borrow.Author.Rules.{rules}
+use Rattle.laws.specs.Numbers.{le_octets}
+use Rattle.objects.proofs.values.put_bits_and_octet.Goals as goal
+
+pub returns : goal.returns
+unfolding le_octets
+returns c = c.put_octet.ensures ∙ rw c.put_le4.ensures
