@@ -54,12 +54,12 @@ module _ (f : ℕ → ℕ) where
 abbrev rising : ℕ → ℕ → ℕ
 rising a i = pick (ltb 16777215 (a + i)) wrong_address 0
 
-rise_low : (a i n : ℕ) → a + i + n ≤ 16777216 → first_of (rising a) i n ≡ 0
+rise_low : (a i n : ℕ) → a + i + n ≤ 16777216 → first_number (rising a) i n ≡ 0
 unfolding first_number ◌then◌
 rise_low a i zero h = refl
 rise_low a i (suc n) h = rw (le-ltb 16777215 (a + i) (omega arith)) (rise_low a (suc i) n (omega arith))
 
-rise_high : (a i n : ℕ) → a + i ≤ 16777216 → 16777216 < a + i + n → first_of (rising a) i n ≡ wrong_address
+rise_high : (a i n : ℕ) → a + i ≤ 16777216 → 16777216 < a + i + n → first_number (rising a) i n ≡ wrong_address
 unfolding first_number ◌then◌
 rise_high a i zero h g = absurd (omega arith)
 rise_high a i (suc n) h g =
@@ -133,7 +133,7 @@ module _ (h : Header) (s : List ℕ) where
       let at = plain_address h s i q in
       number_at h s i ∙ rw (le-ltb 16777215 (object_at h s i).address (omega arith)))
 
-  in_sequence : h.sequence ≡ true → objects_refusal h s ≡ first_of (rising (le_of 3 (drop 6 s))) 0 h.count
+  in_sequence : h.sequence ≡ true → objects_refusal h s ≡ first_number (rising (le_of 3 (drop 6 s))) 0 h.count
   unfolding objects_refusal
   in_sequence q =
       first_ext (λ (i : ℕ). object_number (answer_at h s i)) (rising (le_of 3 (drop 6 s))) 0 h.count

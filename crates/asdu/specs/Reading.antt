@@ -37,7 +37,7 @@ first_number f i (suc n) = f i then first_number f (suc i) n
 
 -- the objects' refusal: 14 of the first that has one
 unfoldable pub objects_refusal : Header → List ℕ → ℕ
-objects_refusal h s = first_of (λ (i : ℕ). object_number (answer_at h s i)) 0 h.count
+objects_refusal h s = first_number (λ (i : ℕ). object_number (answer_at h s i)) 0 h.count
 
 -- the same by the last address alone: those of a sequence rise, and those of the plain layout always fit. The last is
 -- first + n - 1: two objects from 16,777,215 on are one too many

@@ -308,7 +308,7 @@ module _ (s : Settings) (past : List Entry) (l : Link) (between : List ℕ) (a :
   oldest some =
       let first = (sound_state l g.sound).first_high in
       let places = g.shaped.times in
-      sym (first_of (λ (q : ℕ). get_or l.times q 0) (length l.times) l.state.window.first held (omega arith) some)
+      sym (first_of_ring (λ (q : ℕ). get_or l.times q 0) (length l.times) l.state.window.first held (omega arith) some)
       ∙ (ap (λ (x : List ℕ). get_or x 0 0) (g.means.send_times_law ∙ c.times)
       ∙ (get_or-drop (a_of past) (send_times past) 0 0 ∙ ap (λ (k : ℕ). get_or (send_times past) k 0) (add-zero (a_of past))))
 

@@ -57,7 +57,7 @@ small_passes h s i l = rw (le-ltb 16777215 (object_at h s i).address l)
 -- all of them, and none is refused
 record AllBack (h : Header) (s : List ℕ) (i : ℕ) (os : List Object) : Type 0 where
   are : tabulate (object_at h s) i (length os) ≡ os
-  pass : first_of (λ (j : ℕ). object_number (answer_at h s j)) i (length os) ≡ 0
+  pass : first_number (λ (j : ℕ). object_number (answer_at h s j)) i (length os) ≡ 0
 
 all_back : (h : Header) (s : List ℕ) (first : ℕ) → (h.sequence ≡ true → le_of 3 (drop 6 s) ≡ first)
     → (i : ℕ) (os : List Object) → first_refusal h.kind h.sequence first i os ≡ 0 → TypedObjects os
@@ -118,7 +118,7 @@ first_back false s first l e h g = let z : ◌≡◌ {A = ℕ} 0 1 = cc in absur
 
 objects_pass : (h : Header) (s : List ℕ) (os : List Object) → length os ≡ h.count → AllBack h s 0 os → (objects_refusal h s ≡ 0) × (objects_in h s ≡ os)
 unfolding objects_refusal
-objects_pass h s os n b = (ap (first_of (λ (j : ℕ). object_number (answer_at h s j)) 0) (sym n) ∙ b.pass, ap (tabulate (object_at h s) 0) (sym n) ∙ b.are)
+objects_pass h s os n b = (ap (first_number (λ (j : ℕ). object_number (answer_at h s j)) 0) (sym n) ∙ b.pass, ap (tabulate (object_at h s) 0) (sym n) ∙ b.are)
 
 -- a record that is not refused: its octets are six of its header and the body, and reading them gives it again
 module _ (k : Kind) (a : Asdu) (room : ℕ) (w : Writable k a room) (t : TypedAsdu a) where

@@ -38,7 +38,7 @@ abbrev invariant-loop : tie.invariant-loop
 invariant-loop s h n asdu₀ i₀ asdu i =
     (i ≤ n)
     × (asdu ≡ asdu_of h asdu.objects)
-    × (first_of (number_at h s) i (n - i) ≡ objects_refusal h s)
+    × (first_number (number_at h s) i (n - i) ≡ objects_refusal h s)
     × (sets asdu.objects i (tabulate (object_at h s) i (n - i)) ≡ filled (objects_in h s))
 
 abbrev decreases-loop : tie.decreases-loop
