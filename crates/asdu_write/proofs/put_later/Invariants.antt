@@ -1,0 +1,20 @@
+use Prim.Native.Nat.{◌+◌, ◌-◌}
+use mathlib.Core.Path.{◌≡◌, refl, sym, ap, ◌∙◌}
+use native.Mathlib.Omega.{arith}
+use lib.ListN.{length, take, drop, length-map, get_or, length-append}
+use lib.Seq.{sets}
+use Rattle.laws.proofs.Lists.{sets_append}
+use Rattle.objects.specs.Objects.{blank}
+use Rattle.asdu.specs.Writing.{body_octets, objects_octets}
+use Rattle.asdu_write.proofs.Places.{put_long}
+use Rattle.asdu_write.proofs.Rows.{octets-more, octets-end}
+use Rattle.asdu_write.proofs.put_later.Given as goal
+
+abbrev pub invariant-loop-i : goal.invariant-loop-i
+invariant-loop-i l =
+    (length l.out ≡ length l.initial.out)
+    × (sets l.out l.at (objects_octets l.sequence (drop l.i (take l.n l.a.objects))) ≡ sets l.initial.out l.from (objects_octets l.sequence (drop 1 (take l.n l.a.objects))))
+    × (l.at + length (objects_octets l.sequence (drop l.i (take l.n l.a.objects))) ≡ l.from + length (objects_octets l.sequence (drop 1 (take l.n l.a.objects))))
+
+abbrev pub decreases-loop-i : goal.decreases-loop-i
+decreases-loop-i l = l.n - l.i
