@@ -12,7 +12,7 @@ use Rattle.laws.specs.Numbers.{le_of}
 use Rattle.laws.proofs.Choices.{passed, held}
 use Rattle.laws.proofs.Lists.{octets_drop}
 use Rattle.laws.proofs.Numbers.{le_fits}
-use Rattle.elements.specs.Refusals.{refusal, bad_uControl, bad_sControl, bad_iControl, i_without_asdu}
+use Rattle.elements.specs.Refusals.{refusal, bad_u_control, bad_s_control, bad_i_control, i_without_asdu}
 use Rattle.elements.specs.declared.refusals.Refusal.{Refusal}
 use Rattle.asdu.specs.Reading.{read_refusal}
 use Rattle.apdu.specs.Control.{send_number, receive_number, number_at, u_of}
@@ -68,20 +68,20 @@ module _ (f : List ℕ) where
   unfolding short_answer
   short o l a = by (eqb (get_or f 2 0 % 4) 3) refl
     where
-      u-by : (t v : Bool) → eqb (get_or f 2 0 % 4) 3 ≡ true → eqb (get_or f 3 0) 0 ≡ t → eqb (le_of 2 (drop 4 f)) 0 ≡ v → Shape f
-      u-by true true e g h =
+      u_by : (t v : Bool) → eqb (get_or f 2 0 % 4) 3 ≡ true → eqb (get_or f 3 0) 0 ≡ t → eqb (le_of 2 (drop 4 f)) 0 ≡ v → Shape f
+      u_by true true e g h =
           u_shape (record { outside = o; four = l; low = eqb-true _ _ e; second = eqb-true _ _ g; rest = eqb-true _ _ h }) (a ∙ rw (e, g, h))
-      u-by true false e g h = refused_shape (refusal bad_uControl) (λ z. omega arith) (a ∙ rw (e, g, h))
-      u-by false v e g h = refused_shape (refusal bad_uControl) (λ z. omega arith) (a ∙ rw (e, g))
+      u_by true false e g h = refused_shape (refusal bad_u_control) (λ z. omega arith) (a ∙ rw (e, g, h))
+      u_by false v e g h = refused_shape (refusal bad_u_control) (λ z. omega arith) (a ∙ rw (e, g))
 
-      s-by : (t v : Bool) → eqb (get_or f 2 0 % 4) 3 ≡ false → eqb (get_or f 2 0 % 4) 1 ≡ t → eqb (le_of 2 (drop 2 f)) 1 ≡ v → Shape f
-      s-by true true n e g = s_shape (record { outside = o; four = l; first = eqb-true _ _ g }) (a ∙ rw (n, e, g))
-      s-by true false n e g = refused_shape (refusal bad_sControl) (λ z. omega arith) (a ∙ rw (n, e, g))
-      s-by false v n e g = refused_shape (refusal i_without_asdu) (λ z. omega arith) (a ∙ rw (n, e))
+      s_by : (t v : Bool) → eqb (get_or f 2 0 % 4) 3 ≡ false → eqb (get_or f 2 0 % 4) 1 ≡ t → eqb (le_of 2 (drop 2 f)) 1 ≡ v → Shape f
+      s_by true true n e g = s_shape (record { outside = o; four = l; first = eqb-true _ _ g }) (a ∙ rw (n, e, g))
+      s_by true false n e g = refused_shape (refusal bad_s_control) (λ z. omega arith) (a ∙ rw (n, e, g))
+      s_by false v n e g = refused_shape (refusal i_without_asdu) (λ z. omega arith) (a ∙ rw (n, e))
 
       by : (t : Bool) → eqb (get_or f 2 0 % 4) 3 ≡ t → Shape f
-      by true e = u-by (eqb (get_or f 3 0) 0) (eqb (le_of 2 (drop 4 f)) 0) e refl refl
-      by false e = s-by (eqb (get_or f 2 0 % 4) 1) (eqb (le_of 2 (drop 2 f)) 1) e refl refl
+      by true e = u_by (eqb (get_or f 3 0) 0) (eqb (le_of 2 (drop 4 f)) 0) e refl refl
+      by false e = s_by (eqb (get_or f 2 0 % 4) 1) (eqb (le_of 2 (drop 2 f)) 1) e refl refl
 
   long : Outer f → frame_answer f ≡ long_answer f → Shape f
   unfolding long_answer
@@ -91,8 +91,8 @@ module _ (f : List ℕ) where
       by true true true e g h =
           i_shape (record { outside = o; send_bit = eqb-true _ _ e; receive_bit = eqb-true _ _ g; reads = eqb-true _ _ h }) (a ∙ rw (e, g, h))
       by true true false e g h = refused_shape (refusal (read_refusal (drop 6 f))) (eqb-false _ _ h) (a ∙ rw (e, g, h))
-      by true false w e g h = refused_shape (refusal bad_iControl) (λ z. omega arith) (a ∙ rw (e, g))
-      by false v w e g h = refused_shape (refusal bad_iControl) (λ z. omega arith) (a ∙ rw e)
+      by true false w e g h = refused_shape (refusal bad_i_control) (λ z. omega arith) (a ∙ rw (e, g))
+      by false v w e g h = refused_shape (refusal bad_i_control) (λ z. omega arith) (a ∙ rw e)
 
   pub shape : Shape f
   unfolding frame_answer

@@ -2,7 +2,7 @@
 use Rattle.std.specs.Prelude.{ℕ, ◌+◌, ◌%◌, ◌&&◌, List, [], get_or, drop, length, ltb, eqb}
 use Rattle.laws.specs.Choice.{pick}
 use Rattle.laws.specs.Numbers.{le_of}
-use Rattle.elements.specs.Refusals.{refusal, frame_too_short, wrong_start, frame_too_long, length_mismatch, i_without_asdu, bad_uControl, bad_sControl, bad_iControl}
+use Rattle.elements.specs.Refusals.{refusal, frame_too_short, wrong_start, frame_too_long, length_mismatch, i_without_asdu, bad_u_control, bad_s_control, bad_i_control}
 use Rattle.asdu.specs.Reading.{read_refusal}
 use Rattle.apdu.specs.Control.{send_number, receive_number, number_at, u_of}
 use Rattle.apdu.specs.declared.frame.FrameAnswer.{FrameAnswer}
@@ -22,9 +22,9 @@ outer_refusal f =
 unfoldable pub short_answer : List ℕ → FrameAnswer
 short_answer f =
     pick (eqb (get_or f 2 0 % 4) 3)
-    (pick (eqb (get_or f 3 0) 0 && eqb (le_of 2 (drop 4 f)) 0) (U (u_of (get_or f 2 0))) (Refused (refusal bad_uControl)))
+    (pick (eqb (get_or f 3 0) 0 && eqb (le_of 2 (drop 4 f)) 0) (U (u_of (get_or f 2 0))) (Refused (refusal bad_u_control)))
     (pick (eqb (get_or f 2 0 % 4) 1)
-    (pick (eqb (le_of 2 (drop 2 f)) 1) (S (receive_number (number_at 4 f))) (Refused (refusal bad_sControl)))
+    (pick (eqb (le_of 2 (drop 2 f)) 1) (S (receive_number (number_at 4 f))) (Refused (refusal bad_s_control)))
     (Refused (refusal i_without_asdu)))
 
 -- else an I frame: 8 where bit 0 of octet 1 or 3 is set, then what its ASDU refuses
@@ -34,7 +34,7 @@ long_answer f =
     (pick (eqb (read_refusal (drop 6 f)) 0)
     (I (send_number (number_at 2 f)) (receive_number (number_at 4 f)))
     (Refused (refusal (read_refusal (drop 6 f)))))
-    (Refused (refusal bad_iControl))
+    (Refused (refusal bad_i_control))
 
 -- the frame: its outside first, then by L
 unfoldable pub frame_answer : List ℕ → FrameAnswer

@@ -29,8 +29,8 @@ module _ (s : List ℕ) where
   unfolding header_refusal ◌then◌
   past_start e = rw e
 
-  abbrev layoutHere : Kind → ℕ
-  layoutHere k = layout_refusal k (sequence_in s) (count_in s) (length s)
+  abbrev layout_here : Kind → ℕ
+  layout_here k = layout_refusal k (sequence_in s) (count_in s) (length s)
 
   pub refuses : eqb (header_refusal s) 0 ≡ false → HeaderAnswer.Refused (refusal (header_refusal s)) ≡ header_answer s
   unfolding header_answer
@@ -40,7 +40,7 @@ module _ (s : List ℕ) where
   unfolding header_answer
   answers a z f = rw (z, f)
 
-  pub accepts : (k : Kind) → early_refusal s ≡ 0 → kind_of (get_or s 0 0) ≡ Carried k → layoutHere k ≡ 0 → HeaderAnswer.Header (header_in k s) ≡ header_answer s
+  pub accepts : (k : Kind) → early_refusal s ≡ 0 → kind_of (get_or s 0 0) ≡ Carried k → layout_here k ≡ 0 → HeaderAnswer.Header (header_in k s) ≡ header_answer s
   accepts k e f l = answers (Carried k) (past_start e ∙ (ap (λ (a : KindAnswer). header_refusal_by a s) f ∙ l)) f
 
 -- ---- what an answer shows

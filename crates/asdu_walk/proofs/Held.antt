@@ -88,12 +88,12 @@ module _ {M : Type 1} {𝓤 : Ura M} (𝓛 : Logic 𝓤) where
 
   module _ (κ : Lft) (s : Bor (List ℕ)) (is : Is (ShrSlice (named 0) κ u8) s (slice_val_of s ∷ [])) (p : Place) (u : Val) (place : IsPlace p u) where
     -- a walk made of a slice and a place, as a result and as a local
-    pub held-typed : Holds (has_ty (T'.mir (named 0)) (held s u)) × WT (held s u)
-    held-typed =
+    pub held_typed : Holds (has_ty (T'.mir (named 0)) (held s u)) × WT (held s u)
+    held_typed =
         subst (λ (x : Val). Holds (has_ty (T'.mir (named 0)) (held s x)) × WT (held s x)) (sym (place_told p u place))
         ((LL.lawful (D κ) (L κ) 𝓛).typed (at s p) _ (LL.owes (D κ) (L κ) (at s p) (is, (place_is p u place, tt)))).0
 
-    pub held-typed-local : Holds (has_ty (T'.mir erased) (held s u)) × WT (held s u)
-    held-typed-local =
+    pub held_typed_local : Holds (has_ty (T'.mir erased) (held s u)) × WT (held s u)
+    held_typed_local =
         subst (λ (x : Val). Holds (has_ty (T'.mir erased) (held s x)) × WT (held s x)) (sym (place_told p u place))
         ((LL.lawful (T.the_type (αᵉ κ)) (T'.the_laws (αᵉ κ)) 𝓛).typed (at s p) _ (LL.owes (D κ) (L κ) (at s p) (is, (place_is p u place, tt)))).0

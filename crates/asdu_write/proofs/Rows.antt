@@ -33,13 +33,13 @@ module _ (k : Kind) (o : Object) where
   alone_kind h = simp (ne_eqb _ _ h)
 
   module _ (h : type_of (value_kind o.value) ≡ type_of k) where
-    pub alone-address : 16777215 < o.address → object_refusal k false 0 0 o ≡ wrong_address
+    pub alone_address : 16777215 < o.address → object_refusal k false 0 0 o ≡ wrong_address
     unfolding object_refusal kind_refusal address_refusal ◌then◌
-    alone-address g = simp (eq-eqb _ _ h, lt-ltb _ _ g)
+    alone_address g = simp (eq-eqb _ _ h, lt-ltb _ _ g)
 
-    pub alone-value : o.address ≤ 16777215 → object_refusal k false 0 0 o ≡ value_refusal o.value
+    pub alone_value : o.address ≤ 16777215 → object_refusal k false 0 0 o ≡ value_refusal o.value
     unfolding object_refusal kind_refusal address_refusal ◌then◌
-    alone-value g = simp (eq-eqb _ _ h, le-ltb _ _ g)
+    alone_value g = simp (eq-eqb _ _ h, le-ltb _ _ g)
 
 module _ (n i : ℕ) (l : List Object) (g : n ≤ length l) where
   one_more : i < n → drop i (take n l) ≡ get_or l i blank ∷ drop (i + 1) (take n l)
@@ -57,27 +57,27 @@ module _ (n i : ℕ) (l : List Object) (g : n ≤ length l) where
     abbrev after : ℕ
     after = first_refusal k q first (i + 1) (drop (i + 1) (take n l))
 
-    refusal-more : i < n → first_refusal k q first i (drop i (take n l)) ≡ (here then after)
+    refusal_more : i < n → first_refusal k q first i (drop i (take n l)) ≡ (here then after)
     unfolding first_refusal
-    refusal-more h = rw (one_more h, add-one i)
+    refusal_more h = rw (one_more h, add-one i)
 
     -- object i's refusal, as the code tests it
     module _ {w : Refusal} {b : Bool} (h : i < n) (is : w ≡ refusal (object_refusal k q first i (get_or l i blank))) (tested : b ≡ eqb w.0 0) where
-      pub refusal-here : b ≡ false → w ≡ refusal (first_refusal k q first i (drop i (take n l)))
-      refusal-here t = stops here after is tested t ∙ ap refusal (sym (refusal-more h))
+      pub refusal_here : b ≡ false → w ≡ refusal (first_refusal k q first i (drop i (take n l)))
+      refusal_here t = stops here after is tested t ∙ ap refusal (sym (refusal_more h))
 
-      pub refusal-after : b ≡ true → first_refusal k q first (i + 1) (drop (i + 1) (take n l)) ≡ first_refusal k q first i (drop i (take n l))
-      refusal-after t = goes here after is tested t ∙ sym (refusal-more h)
+      pub refusal_after : b ≡ true → first_refusal k q first (i + 1) (drop (i + 1) (take n l)) ≡ first_refusal k q first i (drop i (take n l))
+      refusal_after t = goes here after is tested t ∙ sym (refusal_more h)
 
-    pub refusal-end : n ≤ i → first_refusal k q first i (drop i (take n l)) ≡ 0
+    pub refusal_end : n ≤ i → first_refusal k q first i (drop i (take n l)) ≡ 0
     unfolding first_refusal
-    refusal-end h = rw (no_more h)
+    refusal_end h = rw (no_more h)
 
   module _ (q : Bool) where
-    pub octets-more : i < n → objects_octets q (drop i (take n l)) ≡ body_octets q (get_or l i blank) ++ objects_octets q (drop (i + 1) (take n l))
+    pub octets_more : i < n → objects_octets q (drop i (take n l)) ≡ body_octets q (get_or l i blank) ++ objects_octets q (drop (i + 1) (take n l))
     unfolding objects_octets
-    octets-more h = rw (one_more h)
+    octets_more h = rw (one_more h)
 
-    pub octets-end : n ≤ i → objects_octets q (drop i (take n l)) ≡ []
+    pub octets_end : n ≤ i → objects_octets q (drop i (take n l)) ≡ []
     unfolding objects_octets
-    octets-end h = rw (no_more h)
+    octets_end h = rw (no_more h)

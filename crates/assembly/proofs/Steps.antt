@@ -113,9 +113,9 @@ module _ (carry : List ℕ) (held : ℕ) (chunk : List ℕ) (room : 255 ≤ leng
     unfolding topped
     filled = rw answer (stored carry held m chunk (omega arith) there)
 
-    pub topped-long : length (topped carry held chunk) ≡ length carry
+    pub topped_long : length (topped carry held chunk) ≡ length carry
     unfolding topped
-    topped-long = length-sets carry held (take (moved_in (top_up_answer carry held chunk)) chunk)
+    topped_long = length-sets carry held (take (moved_in (top_up_answer carry held chunk)) chunk)
 
 -- ---- where the carry needs more
 
@@ -123,7 +123,7 @@ module _ (carry : List ℕ) (held : ℕ) (chunk : List ℕ) (room : 255 ≤ leng
     (m : ℕ) (answer : top_up_answer carry held chunk ≡ TopUpAnswer.Moved m) (fits : held + m ≤ 255) (there : m ≤ length chunk) where
   pick_again : pick_answer (topped carry held chunk) (held + m) chunk ≡ pick (ltb 0 (held + m)) (from_carry (start_answer (take held carry ++ take m chunk))) (from_chunk (start_answer chunk))
   pick_again =
-      pick_by (topped carry held chunk) (held + m) chunk (omega (arith, topped-long carry held chunk room count m answer fits there)) fits
+      pick_by (topped carry held chunk) (held + m) chunk (omega (arith, topped_long carry held chunk room count m answer fits there)) fits
       ∙ ap (λ (s : List ℕ). pick (ltb 0 (held + m)) (from_carry (start_answer s)) (from_chunk (start_answer chunk))) (filled carry held chunk room count m answer fits there)
 
   after : (a : PickAnswer) → pick_answer (topped carry held chunk) (held + m) chunk ≡ a

@@ -61,10 +61,10 @@ module _ (w : Width) where
         → let k = to_z w (of_z w z) in (T (non_neg k) × Fits w (nat_abs k)) × (nat_abs k ≡ bits_of (bits w) z)
     from_zero h = rw same (positive z f (rw same at h))
 
-    pub below-zero : le_z (pos 0) (to_z w (of_z w z)) ≡ false
+    pub below_zero : le_z (pos 0) (to_z w (of_z w z)) ≡ false
         → (T (non_neg (complement z)) × Fits w (nat_abs (complement z)))
         × (nat_abs (complement z) ≤ 2 ^ bits w - 1) × (2 ^ bits w - 1 - nat_abs (complement z) ≡ bits_of (bits w) z)
-    below-zero h = negative z f (rw same at h)
+    below_zero h = negative z f (rw same at h)
 
 -- ---- seven bits within eight, as VTI has them
 

@@ -47,14 +47,14 @@ length_mismatch = 4
 abbrev pub i_without_asdu : ℕ
 i_without_asdu = 5
 
-abbrev pub bad_uControl : ℕ
-bad_uControl = 6
+abbrev pub bad_u_control : ℕ
+bad_u_control = 6
 
-abbrev pub bad_sControl : ℕ
-bad_sControl = 7
+abbrev pub bad_s_control : ℕ
+bad_s_control = 7
 
-abbrev pub bad_iControl : ℕ
-bad_iControl = 8
+abbrev pub bad_i_control : ℕ
+bad_i_control = 8
 
 abbrev pub asdu_too_short : ℕ
 asdu_too_short = 9

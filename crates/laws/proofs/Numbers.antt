@@ -49,14 +49,14 @@ pub octets_low : (n v : ℕ) → le_octets n (v % 256 ^ n) ≡ le_octets n v
 unfolding le_octets
 octets_low zero v = refl
 octets_low (suc n) v =
-    let e : v % 256 ^ suc n ≡ v / 256 % 256 ^ n * 256 + v % 256 = ap (λ (m : ℕ). v % m) (pow-suc 256 n) ∙ mod-mul v {m = 256 ^ n} {c = 256} (pos-pow n) (omega arith) in
+    let e : v % 256 ^ suc n ≡ v / 256 % 256 ^ n * 256 + v % 256 = ap (λ (m : ℕ). v % m) (pow-suc 256 n) ∙ mod-mul v {m = 256 ^ n} {c = 256} (pos_pow n) (omega arith) in
     let a : v % 256 ^ suc n % 256 ≡ v % 256 = omega arith in
     let b : v % 256 ^ suc n / 256 ≡ v / 256 % 256 ^ n = omega arith in
     rw (a, b, octets_low n (v / 256))
   where
-    pos-pow : (n : ℕ) → 0 < 256 ^ n
-    pos-pow zero = omega arith
-    pos-pow (suc n) = omega (arith, pow-suc 256 n, pos-pow n)
+    pos_pow : (n : ℕ) → 0 < 256 ^ n
+    pos_pow zero = omega arith
+    pos_pow (suc n) = omega (arith, pow-suc 256 n, pos_pow n)
 
 pub reads_back : NumberReadsBack
 unfolding le_of le_octets

@@ -247,10 +247,10 @@ module _ (a : Abstract) (now : ℕ) where
 
   lets : (d : ℕ) → Grows a now d 0 0 a.waiting (letting d now a)
   unfolding letting free
-  lets d = grows_flush a now d 0 a.waiting a.waiting (begin (free d a)) refl freed-first
+  lets d = grows_flush a now d 0 a.waiting a.waiting (begin (free d a)) refl freed_first
     where
-      freed-first : Grows a now d 0 0 a.waiting (begin (free d a))
-      freed-first =
+      freed_first : Grows a now d 0 0 a.waiting (begin (free d a))
+      freed_first =
           unfold asdus_of NumberedFrames tells_r others in
           (record {
             sent = sym (add-zero _);
@@ -266,10 +266,10 @@ module _ (a : Abstract) (now : ℕ) where
 
   counts_lets : (d : ℕ) → Grows a now d 1 0 a.waiting (letting d now (count a))
   unfolding letting free count
-  counts_lets d = grows_flush a now d 1 a.waiting a.waiting (begin (free d (count a))) refl freed-first
+  counts_lets d = grows_flush a now d 1 a.waiting a.waiting (begin (free d (count a))) refl freed_first
     where
-      freed-first : Grows a now d 1 0 a.waiting (begin (free d (count a)))
-      freed-first =
+      freed_first : Grows a now d 1 0 a.waiting (begin (free d (count a)))
+      freed_first =
           unfold asdus_of NumberedFrames tells_r others in
           (record {
             sent = sym (add-zero _);
@@ -284,10 +284,10 @@ module _ (a : Abstract) (now : ℕ) where
           })
 
   module _ (e : Event) where
-    has-accepted : (came : Bool) (d c : ℕ) {u : ℕ} (ws : List (List ℕ)) (p : Progress) → frees e 0 a.confirmed ≡ d → counts e 0 ≡ c → a.waiting ++ takes e 0 ≡ ws
+    has_accepted : (came : Bool) (d c : ℕ) {u : ℕ} (ws : List (List ℕ)) (p : Progress) → frees e 0 a.confirmed ≡ d → counts e 0 ≡ c → a.waiting ++ takes e 0 ≡ ws
         → u ≤ 1 → Grows a now d c u ws p → Effect e now a (accept came p)
     unfolding accept
-    has-accepted came d c ws p ed ec et h g =
+    has_accepted came d c ws p ed ec et h g =
         let few = g.few in
         let low = num_low (tells_r p.frames) in
         record {
@@ -303,10 +303,10 @@ module _ (a : Abstract) (now : ℕ) where
           silent = λ z. absurd (z refl);
         }
 
-    has-refused : (n : ℕ) (b : Abstract) → b.sent ≡ a.sent → b.received ≡ a.received → b.confirmed ≡ a.confirmed → b.times ≡ a.times → b.waiting ≡ a.waiting → b.settings ≡ a.settings → b.unconfirmed ≡ a.unconfirmed
+    has_refused : (n : ℕ) (b : Abstract) → b.sent ≡ a.sent → b.received ≡ a.received → b.confirmed ≡ a.confirmed → b.times ≡ a.times → b.waiting ≡ a.waiting → b.settings ≡ a.settings → b.unconfirmed ≡ a.unconfirmed
         → frees e n a.confirmed ≡ 0 → counts e n ≡ 0 → takes e n ≡ [] → Effect e now a (record { refused = n; link = b; frames = []; came = false })
     unfolding asdus_of NumberedFrames tells_r others
-    has-refused n b s r f t w k u ed ec et =
+    has_refused n b s r f t w k u ed ec et =
         record {
           sent = s ∙ sym (add-zero _);
           received = rw ec (r ∙ sym (add-zero _));
@@ -320,13 +320,13 @@ module _ (a : Abstract) (now : ℕ) where
           silent = λ z. refl;
         }
 
-    has-refuse : (n : ℕ) → frees e n a.confirmed ≡ 0 → counts e n ≡ 0 → takes e n ≡ [] → Effect e now a (refuse n a)
+    has_refuse : (n : ℕ) → frees e n a.confirmed ≡ 0 → counts e n ≡ 0 → takes e n ≡ [] → Effect e now a (refuse n a)
     unfolding refuse
-    has-refuse n ed ec et = has-refused n a refl refl refl refl refl refl refl ed ec et
+    has_refuse n ed ec et = has_refused n a refl refl refl refl refl refl refl ed ec et
 
-    has-close : (n : ℕ) → frees e n a.confirmed ≡ 0 → counts e n ≡ 0 → takes e n ≡ [] → Effect e now a (close n a)
+    has_close : (n : ℕ) → frees e n a.confirmed ≡ 0 → counts e n ≡ 0 → takes e n ≡ [] → Effect e now a (close n a)
     unfolding close ended
-    has-close n ed ec et = has-refused n _ refl refl refl refl refl refl refl ed ec et
+    has_close n ed ec et = has_refused n _ refl refl refl refl refl refl refl ed ec et
 
 -- ---- the events
 
@@ -345,22 +345,22 @@ module _ (now : ℕ) (a : Abstract) (w : Within a) where
       let d = freed_by number.0 a in
       picked (Has ev) (eqb sent.0 (on_wire a.received))
       (picked (Has ev) (fits number.0 a)
-      (has-accepted a now ev true d 1 a.waiting _ (ap (λ (q : FrameAnswer). frees_by q a.confirmed) e) (ap counts_by e) (append-nil _) (omega arith)
+      (has_accepted a now ev true d 1 a.waiting _ (ap (λ (q : FrameAnswer). frees_by q a.confirmed) e) (ap counts_by e) (append-nil _) (omega arith)
       (grows_finish a now d 1 _ more _ (grows_timing a now d 1 _ (t3_from now) _ (grows_timing a now d 1 _ (t2_from now) _ (counts_lets a now d)))))
-      (has-close a now ev wrong_receive_number refl refl refl))
-      (has-close a now ev wrong_send_number refl refl refl)
+      (has_close a now ev wrong_receive_number refl refl refl))
+      (has_close a now ev wrong_send_number refl refl refl)
   on_frame_law f more (FrameAnswer.S number) e =
       let ev = frame f more in
       let d = freed_by number.0 a in
       picked (Has ev) (fits number.0 a)
-      (has-accepted a now ev false d 0 a.waiting _ (ap (λ (q : FrameAnswer). frees_by q a.confirmed) e) (ap counts_by e) (append-nil _) (omega arith)
+      (has_accepted a now ev false d 0 a.waiting _ (ap (λ (q : FrameAnswer). frees_by q a.confirmed) e) (ap counts_by e) (append-nil _) (omega arith)
       (grows_finish a now d 0 _ more _ (grows_timing a now d 0 _ (t3_from now) _ (lets a now d))))
-      (has-close a now ev wrong_receive_number refl refl refl)
+      (has_close a now ev wrong_receive_number refl refl refl)
   on_frame_law f more (FrameAnswer.U u) e =
       let ev = frame f more in
       let none_out : Grows a now 0 0 1 a.waiting (begin a) = grows_more a now 0 0 (omega arith) (begins a now) in
       let taken : (p : Progress) → Grows a now 0 0 1 a.waiting p → Has ev (accept false p) = λ p g.
-      has-accepted a now ev false 0 0 a.waiting p (ap (λ (q : FrameAnswer). frees_by q a.confirmed) e) (ap counts_by e) (append-nil _) (omega arith) g in
+      has_accepted a now ev false 0 0 a.waiting p (ap (λ (q : FrameAnswer). frees_by q a.confirmed) e) (ap counts_by e) (append-nil _) (omega arith) g in
       let stopping : (p : Progress) → Grows a now 0 0 1 a.waiting p → Has ev (accept false (change (stop_link now) p)) = λ p g.
       taken _ (grows_ended a now 0 0 _ 0 _ (grows_clock a now 0 0 _ _ (grows_timing a now 0 0 _ (t3_from now) p g))) in
       picked (Has ev) (eqb (u_octet u) test_act)
@@ -369,9 +369,9 @@ module _ (now : ℕ) (a : Abstract) (w : Within a) where
       (taken _ (grows_finish a now 0 0 _ more _ (grows_timing a now 0 0 _ (t3_from now) _ (grows_timing a now 0 0 _ test_answered _ none_out))))
       (picked (Has ev) (eqb (u_octet u) stop_act)
       (stopping _ (grows_u a now 0 0 _ (u_of stop_con) _ (begins a now)))
-      (picked (Has ev) (eqb (u_octet u) stop_con) (stopping _ none_out) (has-close a now ev u_not_answered refl refl refl))))
+      (picked (Has ev) (eqb (u_octet u) stop_con) (stopping _ none_out) (has_close a now ev u_not_answered refl refl refl))))
   on_frame_law f more (FrameAnswer.Refused r) e =
-      has-close a now (frame f more) r.0
+      has_close a now (frame f more) r.0
       (ap (λ (q : FrameAnswer). pick (eqb r.0 0) (frees_by q a.confirmed) 0) e ∙ pick_same (eqb r.0 0) 0)
       (ap (λ (q : FrameAnswer). pick (eqb r.0 0) (counts_by q) 0) e ∙ pick_same (eqb r.0 0) 0) refl
 
@@ -394,12 +394,12 @@ module _ (now : ℕ) (a : Abstract) (w : Within a) where
           (pick (leb a.settings.p (length a.waiting)) (refuse queue_full a) (accept false (finish false now (begin (queue asdu a))))))
       by true e =
           let n = alone e in
-          has-accepted a now (send asdu) false 0 0 (a.waiting ++ (asdu ∷ [])) _ refl refl refl (omega arith)
+          has_accepted a now (send asdu) false 0 0 (a.waiting ++ (asdu ∷ [])) _ refl refl refl (omega arith)
           (grows_finish a now 0 0 (a.waiting ++ (asdu ∷ [])) false _
           (grows_send a now 0 0 a.waiting (a.waiting ++ (asdu ∷ [])) asdu a.waiting (begin a) (unfold asdus_of in (rw n)) (begins a now)))
       by false e =
-          picked (Has (send asdu)) (leb a.settings.p (length a.waiting)) (has-refuse a now (send asdu) queue_full refl refl refl)
-          (has-accepted a now (send asdu) false 0 0 (a.waiting ++ (asdu ∷ [])) _ refl refl refl (omega arith) (grows_finish a now 0 0 _ false _ waits))
+          picked (Has (send asdu)) (leb a.settings.p (length a.waiting)) (has_refuse a now (send asdu) queue_full refl refl refl)
+          (has_accepted a now (send asdu) false 0 0 (a.waiting ++ (asdu ∷ [])) _ refl refl refl (omega arith) (grows_finish a now 0 0 _ false _ waits))
         where
           waits : Grows a now 0 0 0 (a.waiting ++ (asdu ∷ [])) (begin (queue asdu a))
           waits = let g = begins a now in
@@ -409,13 +409,13 @@ module _ (now : ℕ) (a : Abstract) (w : Within a) where
   on_send_law : (asdu : List ℕ) (q : PlainAnswer) → plain_answer asdu ≡ q → Has (send asdu) (step_send q asdu now a)
   unfolding step_send
   on_send_law asdu PlainAnswer.Plain e = on_plain asdu
-  on_send_law asdu PlainAnswer.Reserved e = has-refuse a now (send asdu) not_plain_form refl refl refl
-  on_send_law asdu (PlainAnswer.Refused r) e = has-refuse a now (send asdu) r.0 refl refl (rw (plain_refused asdu r e))
+  on_send_law asdu PlainAnswer.Reserved e = has_refuse a now (send asdu) not_plain_form refl refl refl
+  on_send_law asdu (PlainAnswer.Refused r) e = has_refuse a now (send asdu) r.0 refl refl (rw (plain_refused asdu r e))
 
   on_stop_law : Has stop (step_stop now a)
   unfolding step_stop tells_r
   on_stop_law =
-      has-accepted a now stop false 0 0 a.waiting _ refl refl (append-nil _) (omega arith)
+      has_accepted a now stop false 0 0 a.waiting _ refl refl (append-nil _) (omega arith)
       (grows_finish a now 0 0 _ false _ (grows_timing a now 0 0 _ (t1u_from now) _ (grows_confirm a now 0 0 _ _ refl (grows_u a now 0 0 _ (u_of stop_act) _ (begins a now)))))
 
   grows_test : (p : Progress) → Grows a now 0 0 0 a.waiting p → Grows a now 0 0 1 a.waiting (test_out now p)
@@ -425,17 +425,17 @@ module _ (now : ℕ) (a : Abstract) (w : Within a) where
   on_test : Has test (step_test now a)
   unfolding step_test
   on_test =
-      picked (Has test) (many_open a) (has-close a now test too_many_tests refl refl refl)
-      (has-accepted a now test false 0 0 a.waiting _ refl refl (append-nil _) (omega arith) (grows_finish a now 0 0 _ false _ (grows_test _ (begins a now))))
+      picked (Has test) (many_open a) (has_close a now test too_many_tests refl refl refl)
+      (has_accepted a now test false 0 0 a.waiting _ refl refl (append-nil _) (omega arith) (grows_finish a now 0 0 _ false _ (grows_test _ (begins a now))))
 
   on_tick_law : Has tick (step_tick now a)
   unfolding step_tick tick_t3 tick_t2 tells_r
   on_tick_law =
       let g = picked (Grows a now 0 0 0 _) (is_due a.timers.t2 now) (grows_confirm a now 0 0 _ _ refl (begins a now)) (begins a now) in
       picked (Has tick) (eqb (tick_number now a) 0)
-      (has-accepted a now tick false 0 0 a.waiting _ refl refl (append-nil _) (omega arith)
+      (has_accepted a now tick false 0 0 a.waiting _ refl refl (append-nil _) (omega arith)
       (grows_finish a now 0 0 _ false _ (picked (Grows a now 0 0 1 _) (is_due a.timers.t3 now) (grows_test _ g) (grows_more a now 0 0 (omega arith) g))))
-      (has-close a now tick (tick_number now a) refl refl refl)
+      (has_close a now tick (tick_number now a) refl refl refl)
 
 pub has_effect : HasEffect
 unfolding step

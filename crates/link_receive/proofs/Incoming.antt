@@ -130,13 +130,13 @@ module _ (s : State) (number : ℕ) (ts ps out : List ℕ) (more : Bool) (now : 
         let as-told : r ≡ refused_step (shut x.0 s) x.0 = rw same at closed in
         record { answers = answers_closing x.0 s ts ps out some as-told; ring = refl }
 
-    pub s-refused : Does (on_s number s ts ps more now) out r ts out
+    pub s_refused : Does (on_s number s ts ps more now) out r ts out
     unfolding on_s s_freeing
-    s-refused = rw wrong closes
+    s_refused = rw wrong closes
 
-    pub i-refused : (sent : ℕ) → sent ≡ s.receive.next.0 → Does (on_i sent number s ts ps more now) out r ts out
+    pub i_refused : (sent : ℕ) → sent ≡ s.receive.next.0 → Does (on_i sent number s ts ps more now) out r ts out
     unfolding on_i i_freeing
-    i-refused sent e = rw (eq-eqb sent s.receive.next.0 e, wrong) closes
+    i_refused sent e = rw (eq-eqb sent s.receive.next.0 e, wrong) closes
 
   right : {d : ℕ} → a ≡ AckAnswer.Frees d → acknowledged s.window.next.0 s.window.held number ≡ AckAnswer.Frees d
   right is = sym acked ∙ is

@@ -27,15 +27,15 @@ module _ (asdu : List ℕ) {a : PlainAnswer} (read : a ≡ plain_answer asdu) wh
 
   module _ (s : State) (ts ps out : List ℕ) (now : ℕ) {r : Step} {ts₁ ps₁ out₁ : List ℕ} where
     -- what is answered to the check is answered to the ASDU
-    pub send-answered : {b : PlainAnswer} → a ≡ b → DoesSend (send_by b asdu s ts ps now) out r ts₁ ps₁ out₁ → DoesSend (on_send asdu s ts ps now) out r ts₁ ps₁ out₁
+    pub send_answered : {b : PlainAnswer} → a ≡ b → DoesSend (send_by b asdu s ts ps now) out r ts₁ ps₁ out₁ → DoesSend (on_send asdu s ts ps now) out r ts₁ ps₁ out₁
     unfolding on_send
-    send-answered is h = subst (λ (x : PlainAnswer). DoesSend (send_by x asdu s ts ps now) out r ts₁ ps₁ out₁) (sym is ∙ read) h
+    send_answered is h = subst (λ (x : PlainAnswer). DoesSend (send_by x asdu s ts ps now) out r ts₁ ps₁ out₁) (sym is ∙ read) h
 
   module _ (s : State) (ts ps out : List ℕ) (now : ℕ) {r : Step} where
-    pub send-reserved : a ≡ PlainAnswer.Reserved → r ≡ refused_step s not_plain_form → DoesSend (on_send asdu s ts ps now) out r ts ps out
+    pub send_reserved : a ≡ PlainAnswer.Reserved → r ≡ refused_step s not_plain_form → DoesSend (on_send asdu s ts ps now) out r ts ps out
     unfolding send_by
-    send-reserved is e = send-answered s ts ps out now is (refuses not_plain_form s ts ps out refl e)
+    send_reserved is e = send_answered s ts ps out now is (refuses not_plain_form s ts ps out refl e)
 
-    pub send-refused : {x : Refusal} → a ≡ PlainAnswer.Refused x → r ≡ refused_step s x.0 → DoesSend (on_send asdu s ts ps now) out r ts ps out
+    pub send_refused : {x : Refusal} → a ≡ PlainAnswer.Refused x → r ≡ refused_step s x.0 → DoesSend (on_send asdu s ts ps now) out r ts ps out
     unfolding send_by
-    send-refused {x} is e = send-answered s ts ps out now is (refuses x.0 s ts ps out (plain_refused asdu x (sym read ∙ is)) e)
+    send_refused {x} is e = send_answered s ts ps out now is (refuses x.0 s ts ps out (plain_refused asdu x (sym read ∙ is)) e)

@@ -84,15 +84,15 @@ module _ (e : Event) (l : Link) (pool out : List ℕ) (now : ℕ) where
       (ends ∙ rw stops (rw (stops, is)), rw stops, rw stops)
 
   module _ (passes : call_refusal l (length out) (length pool) now ≡ 0) {a : Called} {r : Step} {ts₁ out₁ : List ℕ} (ends : a ≡ call_of ts₁ r) where
-    pub call-does : Does (event_outcome e l.state l.times pool now) out r ts₁ out₁
+    pub call_does : Does (event_outcome e l.state l.times pool now) out r ts₁ out₁
         → (a ≡ called_of (called e l pool (length out) now))
         × (out₁ ≡ sets out 0 (wire (called e l pool (length out) now).frames))
     unfolding called called_of step_for
-    call-does d = (ends ∙ rw (passes, d.ring, d.answers.step), rw passes d.answers.octets)
+    call_does d = (ends ∙ rw (passes, d.ring, d.answers.step), rw passes d.answers.octets)
 
-    pub call-sends : {pool₁ : List ℕ} → DoesSend (event_outcome e l.state l.times pool now) out r ts₁ pool₁ out₁
+    pub call_sends : {pool₁ : List ℕ} → DoesSend (event_outcome e l.state l.times pool now) out r ts₁ pool₁ out₁
         → (a ≡ called_of (called e l pool (length out) now))
         × (pool₁ ≡ (called e l pool (length out) now).pool)
         × (out₁ ≡ sets out 0 (wire (called e l pool (length out) now).frames))
     unfolding called
-    call-sends d = let done = call-does d.does in (done.0, rw passes d.pool, done.1)
+    call_sends d = let done = call_does d.does in (done.0, rw passes d.pool, done.1)

@@ -76,9 +76,9 @@ module _ (s : State) (ts ps : List ℕ) (now : ℕ) where
     unfolding test_confirmed accepting
     confirmed = ending_times more now (become (λ (m : State). set_t3 now (tests_answered m)) (start s ts))
 
-    pub u-times : (on_u u s ts ps more now).times ≡ ts
+    pub u_times : (on_u u s ts ps more now).times ≡ ts
     unfolding on_u accepting closing
-    u-times = go (eqb (u_octet u) test_act) (eqb (u_octet u) test_con) (eqb (u_octet u) stop_act) (eqb (u_octet u) stop_con)
+    u_times = go (eqb (u_octet u) test_act) (eqb (u_octet u) test_con) (eqb (u_octet u) stop_act) (eqb (u_octet u) stop_con)
       where
         go : (a b c d : Bool)
             → (pick a (test_acted s ts ps more now)

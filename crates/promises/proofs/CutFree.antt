@@ -72,15 +72,15 @@ module _ (turn : Turn) (after : List ℕ → ℕ → List ℕ → List ℕ) (law
     long : length hand ≡ held + length c
     long = hand_long carry held c need.room need.count
 
-    goes-refused : (most : ℕ) (r : Refusal) → length (ahead carry held (c ∷ cs)) ≤ most → start_answer hand ≡ Refused r
+    goes_refused : (most : ℕ) (r : Refusal) → length (ahead carry held (c ∷ cs)) ≤ most → start_answer hand ≡ Refused r
         → turns turn (suc fuel) at carry held (c ∷ cs) ≡ stream_from most at (ahead carry held (c ∷ cs))
-    goes-refused most r l e =
+    goes_refused most r l e =
         let is : start_answer (ahead carry held (c ∷ cs)) ≡ Refused r = ap (λ (s : List ℕ). start_answer s) joins ∙ longer_refused hand (joined cs) r e in
         law.refuses r e ∙ sym (stream_refused most at _ r l is)
 
-    goes-more : (most : ℕ) → Goes turn fuel → enough (c ∷ cs) ≤ suc fuel → length (ahead carry held (c ∷ cs)) ≤ most → start_answer hand ≡ More
+    goes_more : (most : ℕ) → Goes turn fuel → enough (c ∷ cs) ≤ suc fuel → length (ahead carry held (c ∷ cs)) ≤ most → start_answer hand ≡ More
         → turns turn (suc fuel) at carry held (c ∷ cs) ≡ stream_from most at (ahead carry held (c ∷ cs))
-    goes-more most goes t l e =
+    goes_more most goes t l e =
         let all = law.kept e in
         let next : ahead (after carry held c) (held + length c) cs ≡ ahead carry held (c ∷ cs) = ap (λ (s : List ℕ). s ++ joined cs) all ∙ sym joins in
         let n : Needing (after carry held c) (held + length c) =
@@ -88,9 +88,9 @@ module _ (turn : Turn) (after : List ℕ → ℕ → List ℕ → List ℕ) (law
         law.more e ∙ (goes most at _ _ cs n (omega arith) (omega (arith, ap length next)) ∙ ap (stream_from most at) next)
 
     -- a whole frame: what follows it is ahead of an empty carry and the rest of the chunk
-    goes-whole : (n most : ℕ) → start_answer hand ≡ Whole n → Goes turn fuel → enough (c ∷ cs) ≤ suc fuel → length (ahead carry held (c ∷ cs)) ≤ suc most
+    goes_whole : (n most : ℕ) → start_answer hand ≡ Whole n → Goes turn fuel → enough (c ∷ cs) ≤ suc fuel → length (ahead carry held (c ∷ cs)) ≤ suc most
         → turns turn (suc fuel) at carry held (c ∷ cs) ≡ stream_from (suc most) at (ahead carry held (c ∷ cs))
-    goes-whole n most e goes t l =
+    goes_whole n most e goes t l =
         let bytes = ahead carry held (c ∷ cs) in
         let there = (frame_of _ _ _ n e).there in
         let front = held_long carry held c need.room need.count in
@@ -121,12 +121,12 @@ module _ (turn : Turn) (after : List ℕ → ℕ → List ℕ → List ℕ) (law
     where
       by : Goes turn fuel → (most : ℕ) (a : StartAnswer) → length (ahead carry held (c ∷ cs)) ≤ most → start_answer (on_hand carry held c) ≡ a
           → turns turn (suc fuel) at carry held (c ∷ cs) ≡ stream_from most at (ahead carry held (c ∷ cs))
-      by next most (Refused r) l e = goes-refused fuel at carry held c cs need most r l e
-      by next most More l e = goes-more fuel at carry held c cs need most next t l e
+      by next most (Refused r) l e = goes_refused fuel at carry held c cs need most r l e
+      by next most More l e = goes_more fuel at carry held c cs need most next t l e
       by next zero (Whole n) l e =
           let f = frame_of _ _ _ n e in
           absurd (omega (arith, f.enough, ap length (joins fuel at carry held c cs need), length-append (on_hand carry held c) (joined cs)))
-      by next (suc most) (Whole n) l e = goes-whole fuel at carry held c cs need n most e next t l
+      by next (suc most) (Whole n) l e = goes_whole fuel at carry held c cs need n most e next t l
 
   -- from an empty carry on
   from_empty : (carry : List ℕ) (chunks : List (List ℕ)) → 255 ≤ length carry

@@ -204,43 +204,43 @@ by_test false x y = y
 
 module _ (s : State) (times pool : List ℕ) (now : ℕ) where
   module _ (f : List ℕ) (more : Bool) (o : Octets f) (sound : Sound s) where
-    abbrev came-in : Event
-    came-in = frame f more
+    abbrev came_in : Event
+    came_in = frame f more
 
     held_low : s.window.held ≤ 32767
     held_low = let h = sound.held_k in let k = sound.k_high in omega arith
 
-    s-ending : is_i (brings came-in) ≡ false → (t : Bool) (d : ℕ)
-        → Ending came-in s times pool now (s_freeing (pick t (AckAnswer.Frees d) (AckAnswer.Refused (refusal wrong_receive_number))) s times pool more now)
+    s_ending : is_i (brings came_in) ≡ false → (t : Bool) (d : ℕ)
+        → Ending came_in s times pool now (s_freeing (pick t (AckAnswer.Frees d) (AckAnswer.Refused (refusal wrong_receive_number))) s times pool more now)
     unfolding s_freeing accepting
-    s-ending is true d = accepted refl (sym is) (ending_clock more now _) (λ z m. (settled_by more now _ m).most)
-    s-ending is false d = ended wrong_receive_number (shuts came-in 27 (omega arith) (omega arith)) (omega arith) (omega arith) refl
+    s_ending is true d = accepted refl (sym is) (ending_clock more now _) (λ z m. (settled_by more now _ m).most)
+    s_ending is false d = ended wrong_receive_number (shuts came_in 27 (omega arith) (omega arith)) (omega arith) (omega arith) refl
 
-    i-ending : is_i (brings came-in) ≡ true → (t : Bool) (d : ℕ)
-        → Ending came-in s times pool now (i_freeing (pick t (AckAnswer.Frees d) (AckAnswer.Refused (refusal wrong_receive_number))) s times pool more now)
+    i_ending : is_i (brings came_in) ≡ true → (t : Bool) (d : ℕ)
+        → Ending came_in s times pool now (i_freeing (pick t (AckAnswer.Frees d) (AckAnswer.Refused (refusal wrong_receive_number))) s times pool more now)
     unfolding i_freeing accepting
-    i-ending is true d = accepted refl (sym is) (ending_clock more now _) (λ z m. (settled_by more now _ m).most)
-    i-ending is false d = ended wrong_receive_number (shuts came-in 27 (omega arith) (omega arith)) (omega arith) (omega arith) refl
+    i_ending is true d = accepted refl (sym is) (ending_clock more now _) (λ z m. (settled_by more now _ m).most)
+    i_ending is false d = ended wrong_receive_number (shuts came_in 27 (omega arith) (omega arith)) (omega arith) (omega arith) refl
 
     -- a stop ends the link
-    over : {n : ℕ} → true ≡ false → more_to_come came-in ≡ false → n ≤ s.settings.w
+    over : {n : ℕ} → true ≡ false → more_to_come came_in ≡ false → n ≤ s.settings.w
     over z m = let y : ◌≡◌ {A = ℕ} 0 1 = cc in absurd (omega arith)
 
-    u-ending : is_i (brings came-in) ≡ false → (u : UFrame) → Ending came-in s times pool now (on_u u s times pool more now)
+    u_ending : is_i (brings came_in) ≡ false → (u : UFrame) → Ending came_in s times pool now (on_u u s times pool more now)
     unfolding on_u test_acted test_confirmed accepting shut
-    u-ending is u =
+    u_ending is u =
         by_test (eqb (u_octet u) test_act) (accepted refl (sym is) (ending_clock more now _) (λ z m. (settled_by more now _ m).most))
         (by_test (eqb (u_octet u) test_con) (accepted refl (sym is) (ending_clock more now _) (λ z m. (settled_by more now _ m).most))
         (by_test (eqb (u_octet u) stop_act) (accepted refl (sym is) refl over)
         (by_test (eqb (u_octet u) stop_con) (accepted refl (sym is) refl over)
-        (ended u_not_answered (shuts came-in 29 (omega arith) (omega arith)) (omega arith) (omega arith) refl))))
+        (ended u_not_answered (shuts came_in 29 (omega arith) (omega arith)) (omega arith) (omega arith) refl))))
 
-    by_answer : {a : FrameAnswer} → frame_answer f ≡ a → Ending came-in s times pool now (on_answer a s times pool more now) → Ending came-in s times pool now (on_frame f more s times pool now)
+    by_answer : {a : FrameAnswer} → frame_answer f ≡ a → Ending came_in s times pool now (on_answer a s times pool more now) → Ending came_in s times pool now (on_frame f more s times pool now)
     unfolding on_frame
     by_answer g x = rw g x
 
-    brings-is : {a : FrameAnswer} → frame_answer f ≡ a → is_i (brings came-in) ≡ is_i (framed a)
-    brings-is g = ap (λ (x : FrameAnswer). is_i (framed x)) g
+    brings_is : {a : FrameAnswer} → frame_answer f ≡ a → is_i (brings came_in) ≡ is_i (framed a)
+    brings_is g = ap (λ (x : FrameAnswer). is_i (framed x)) g
 
     -- what the receive number does
     confirmed : ℕ
@@ -251,18 +251,18 @@ module _ (s : State) (times pool : List ℕ) (now : ℕ) where
     unfolding confirmed
     acknowledges = ack_is s.window.next.0 s.window.held (number_at 4 f) sound.next_high held_low (number_fits f 4 o)
 
-    frame-ending : Ending came-in s times pool now (on_frame f more s times pool now)
+    frame_ending : Ending came_in s times pool now (on_frame f more s times pool now)
     unfolding on_answer on_i on_s
-    frame-ending = by (shape f)
+    frame_ending = by (shape f)
       where
-        by : Shape f → Ending came-in s times pool now (on_frame f more s times pool now)
+        by : Shape f → Ending came_in s times pool now (on_frame f more s times pool now)
         by (i_shape c g) =
             by_answer g
             (by_test (eqb (number_at 2 f) s.receive.next.0)
-            (rw acknowledges (i-ending (brings-is g) (leb confirmed s.window.held) confirmed))
-            (ended wrong_send_number (shuts came-in 28 (omega arith) (omega arith)) (omega arith) (omega arith) refl))
-        by (s_shape c g) = by_answer g (rw acknowledges (s-ending (brings-is g) (leb confirmed s.window.held) confirmed))
-        by (u_shape c g) = by_answer g (u-ending (brings-is g) (u_of (get_or f 2 0)))
+            (rw acknowledges (i_ending (brings_is g) (leb confirmed s.window.held) confirmed))
+            (ended wrong_send_number (shuts came_in 28 (omega arith) (omega arith)) (omega arith) (omega arith) refl))
+        by (s_shape c g) = by_answer g (rw acknowledges (s_ending (brings_is g) (leb confirmed s.window.held) confirmed))
+        by (u_shape c g) = by_answer g (u_ending (brings_is g) (u_of (get_or f 2 0)))
         by (refused_shape r n g) =
             let high : r.0 ≤ 14 = omega (arith, frame_most f, ap frame_number g) in
             let low : 1 ≤ r.0 = omega (arith, n) in
@@ -298,7 +298,7 @@ module _ (s : State) (times pool : List ℕ) (now : ℕ) where
       (accepted refl refl (ending_clock false now _) (λ z m. (settled now _).most))
 
   data Due (n : ℕ) : Type 0 where
-    no-timeout : n ≡ 0 → Due n
+    no_timeout : n ≡ 0 → Due n
     timeout : 27 ≤ n → n ≤ 32 → Due n
 
   due_test : (b : Bool) {x y : ℕ} → Due x → Due y → Due (pick b x y)
@@ -310,19 +310,19 @@ module _ (s : State) (times pool : List ℕ) (now : ℕ) where
   tick_due =
       due_test (is_due s.timers.t1u now) (timeout (omega arith) (omega arith))
       (due_test (t1i_due s times now) (timeout (omega arith) (omega arith))
-      (due_test (is_due s.timers.t3 now && too_many s) (timeout (omega arith) (omega arith)) (no-timeout refl)))
+      (due_test (is_due s.timers.t3 now && too_many s) (timeout (omega arith) (omega arith)) (no_timeout refl)))
 
   tick_ending : Ending tick s times pool now (on_tick s times pool now)
   unfolding on_tick accepting
   tick_ending = by tick_due
     where
       by : Due (tick_refusal s times now) → Ending tick s times pool now (on_tick s times pool now)
-      by (no-timeout z) = rw (eq-eqb (tick_refusal s times now) 0 z) (accepted refl refl (ending_clock false now _) (λ y m. (settled now _).most))
+      by (no_timeout z) = rw (eq-eqb (tick_refusal s times now) 0 z) (accepted refl refl (ending_clock false now _) (λ y m. (settled now _).most))
       by (timeout p q) = rw (ne_eqb (tick_refusal s times now) 0 (λ z. omega arith)) (ended (tick_refusal s times now) (shuts tick _ p q) (omega arith) (omega arith) refl)
 
   event_ending : (e : Event) → OctetsIn e → Sound s → Ending e s times pool now (event_outcome e s times pool now)
   unfolding event_outcome
-  event_ending (frame f more) o sound = frame-ending f more o sound
+  event_ending (frame f more) o sound = frame_ending f more o sound
   event_ending (send asdu) o sound = send_ending asdu
   event_ending stop o sound = stop_ending
   event_ending test o sound = test_ending

@@ -167,15 +167,15 @@ module _ (s : Settings) (e : Entry) (past : List Entry) (a : Abstract) (r : Resu
     streamed : stream e.handed ≡ all_of r.frames
     streamed = ap stream bytes ∙ stream_wire r.frames fit
 
-    cut-is : cut e.handed ≡ each r.frames
-    cut-is = ap (λ (o : StreamOutcome). o.frames) streamed
+    cut_is : cut e.handed ≡ each r.frames
+    cut_is = ap (λ (o : StreamOutcome). o.frames) streamed
 
     ends : (stream e.handed).end ≡ rest []
     ends = ap (λ (o : StreamOutcome). o.end) streamed
 
     left_is : asdus_in (i_frames_in (cut e.handed)) ≡ out
     unfolding out
-    left_is = ap (λ (l : List (List ℕ)). asdus_in (i_frames_in l)) cut-is ∙ asdus_out r.frames fit
+    left_is = ap (λ (l : List (List ℕ)). asdus_in (i_frames_in l)) cut_is ∙ asdus_out r.frames fit
 
     many : length (i_frames_in (cut e.handed)) ≡ length out
     many = sym (asdus_long (i_frames_in (cut e.handed))) ∙ ap length left_is
@@ -183,13 +183,13 @@ module _ (s : Settings) (e : Entry) (past : List Entry) (a : Abstract) (r : Resu
     received_is : r.link.received ≡ r_of (e ∷ past)
     received_is = f.received ∙ (counts_are e.event r.refused a.received ∙ cc (number, c.received))
 
-    confirmed-is : r.link.confirmed ≡ a_of (e ∷ past)
-    confirmed-is = f.confirmed ∙ (frees_are e.event r.refused a.confirmed ∙ cc (number, c.confirmed))
+    confirmed_is : r.link.confirmed ≡ a_of (e ∷ past)
+    confirmed_is = f.confirmed ∙ (frees_are e.event r.refused a.confirmed ∙ cc (number, c.confirmed))
 
     numbers : Numbered (s_of past) (r_of (e ∷ past)) (cut e.handed)
     numbers =
         let n = numbers_out a.sent r.link.received r.frames f.numbers fit in
-        rw cut-is (subst (λ (k : ℕ). Numbered k (r_of (e ∷ past)) (each r.frames)) c.sent
+        rw cut_is (subst (λ (k : ℕ). Numbered k (r_of (e ∷ past)) (each r.frames)) c.sent
         (subst (λ (k : ℕ). Numbered a.sent k (each r.frames)) received_is n))
 
     sent_is : r.link.sent ≡ s_of (e ∷ past)
@@ -212,7 +212,7 @@ module _ (s : Settings) (e : Entry) (past : List Entry) (a : Abstract) (r : Resu
         let most = v.confirmed in
         omega (
           arith,
-          confirmed-is,
+          confirmed_is,
           c.sent,
           c.timed,
           ap length f.times,
@@ -221,13 +221,13 @@ module _ (s : Settings) (e : Entry) (past : List Entry) (a : Abstract) (r : Resu
           length-replicate (length (asdus_of r.frames)) e.now,
         )
 
-    times-are : r.link.times ≡ drop (a_of (e ∷ past)) (send_times (e ∷ past))
+    times_are : r.link.times ≡ drop (a_of (e ∷ past)) (send_times (e ∷ past))
     unfolding out
-    times-are =
+    times_are =
         let before : drop steps a.times ≡ drop (a_of (e ∷ past)) (send_times past) =
         ap (drop steps) c.times
         ∙ (drop-drop steps (a_of past) (send_times past)
-        ∙ ap (λ (k : ℕ). drop k (send_times past)) (ap (λ (k : ℕ). k + steps) (sym c.confirmed) ∙ (sym f.confirmed ∙ confirmed-is))) in
+        ∙ ap (λ (k : ℕ). drop k (send_times past)) (ap (λ (k : ℕ). k + steps) (sym c.confirmed) ∙ (sym f.confirmed ∙ confirmed_is))) in
         f.times
         ∙ (cc (before, many)
         ∙ sym (drop-append-le (a_of (e ∷ past)) (send_times past) (replicate (length (i_frames_in (cut e.handed))) e.now) low))
@@ -256,10 +256,10 @@ module _ (s : Settings) (e : Entry) (past : List Entry) (a : Abstract) (r : Resu
         ∙ ap (λ (l : List (List ℕ)). l ++ r.link.waiting)
         (ap (λ (l : List (List ℕ)). have_left past ++ l) (sym left_is) ∙ sym (asdus_append (i_frames past) (i_frames_in (cut e.handed)))))))
 
-    untold-is : r.link.unconfirmed ≡ untold (e ∷ past)
-    untold-is =
+    untold_is : r.link.unconfirmed ≡ untold (e ∷ past)
+    untold_is =
         let n = a.unconfirmed + counts e.event r.refused in
-        let told : told_in (cut e.handed) ≡ tells_r r.frames = ap told_in cut-is ∙ told_out r.frames fit in
+        let told : told_in (cut e.handed) ≡ tells_r r.frames = ap told_in cut_is ∙ told_out r.frames fit in
         let count : n ≡ pick (eqb e.number 0) (received_by (brings e.event) (untold past)) (untold past) =
         counts_are e.event r.refused a.unconfirmed ∙ cc (number, c.unconfirmed) in
         f.unconfirmed ∙ (ap (λ (b : Bool). pick b 0 n) (sym told) ∙ ap (λ (k : ℕ). pick (told_in (cut e.handed)) 0 k) count)
@@ -270,16 +270,16 @@ module _ (s : Settings) (e : Entry) (past : List Entry) (a : Abstract) (r : Resu
           settings = f.settings ∙ c.settings;
           sent = sent_is;
           received = received_is;
-          confirmed = confirmed-is;
-          times = times-are;
+          confirmed = confirmed_is;
+          times = times_are;
           timed = timed;
           order = order;
-          unconfirmed = untold-is;
+          unconfirmed = untold_is;
           plain = plain.1;
           frames = c.frames ++ r.frames;
           fit = fit_append c.frames r.frames c.fit fit;
           bytes = rw (c.bytes, bytes) (sym (wire_append c.frames r.frames));
-          kept = rw (c.kept, cut-is, each_append c.frames r.frames) (sym (kept_append (each c.frames) (each r.frames)));
+          kept = rw (c.kept, cut_is, each_append c.frames r.frames) (sym (kept_append (each c.frames) (each r.frames)));
         }
 
 -- ---- what a link that agrees with a transcript has

@@ -114,31 +114,31 @@ module _ (k : Kind) (s : List ℕ) (o : Octets s) where
   value_at false i = refl
 
   module _ (q : Bool) (i : ℕ) (h : needed k q (suc i) ≤ length s) where
-    unit-fits : length (unit_form q k) ≤ length (drop (needed k q i) s)
-    unit-fits = rw length-drop (omega (arith, unit_long k q, needed_next k q i))
+    unit_fits : length (unit_form q k) ≤ length (drop (needed k q i) s)
+    unit_fits = rw length-drop (omega (arith, unit_long k q, needed_next k q i))
 
-    element-octets : Octets (element_at k q s i)
-    element-octets = octets_drop (pick q 0 3) (drop (needed k q i) s) (octets_drop (needed k q i) s o)
+    element_octets_law : Octets (element_at k q s i)
+    element_octets_law = octets_drop (pick q 0 3) (drop (needed k q i) s) (octets_drop (needed k q i) s o)
 
-    element-fits : size_of k ≤ length (element_at k q s i)
-    element-fits = let l = unit-fits in rw (length-drop (pick q 0 3) (drop (needed k q i) s)) (omega (arith, unit_size k q))
+    element_fits : size_of k ≤ length (element_at k q s i)
+    element_fits = let l = unit_fits in rw (length-drop (pick q 0 3) (drop (needed k q i) s)) (omega (arith, unit_size k q))
 
     -- its value is of the kind and can be written
-    value-kind : value_kind (object_in k q s i).value ≡ k
-    value-kind = ap value_kind (value_at q i) ∙ element_level.kinded k (element_at k q s i)
+    value_kind_law : value_kind (object_in k q s i).value ≡ k
+    value_kind_law = ap value_kind (value_at q i) ∙ element_level.kinded k (element_at k q s i)
 
-    value-accepted : value_refusal (object_in k q s i).value ≡ 0
-    value-accepted = ap value_refusal (value_at q i) ∙ element_level.accepted k (element_at k q s i) element-octets element-fits
+    value_accepted : value_refusal (object_in k q s i).value ≡ 0
+    value_accepted = ap value_refusal (value_at q i) ∙ element_level.accepted k (element_at k q s i) element_octets_law element_fits
 
   -- an object that is read is written again with what its form keeps
   object_kept : (q : Bool) (i : ℕ) → needed k q (suc i) ≤ length s → body_octets q (object_in k q s i) ≡ kept_by (unit_form q k) (drop (needed k q i) s)
   unfolding body_octets object_in object_of object_octets needed
-  object_kept true i h = element_level.again k (element_at k true s i) (element-octets true i h) (element-fits true i h)
+  object_kept true i h = element_level.again k (element_at k true s i) (element_octets_law true i h) (element_fits true i h)
   object_kept false i h =
       let u = drop (needed k false i) s in
       let ou = octets_drop (needed k false i) s o in
-      let l = unit-fits false i h in
-      rw (Numbers.writes_again 3 u ou (omega arith), element_level.again k (drop 3 u) (element-octets false i h) (element-fits false i h))
+      let l = unit_fits false i h in
+      rw (Numbers.writes_again 3 u ou (omega arith), element_level.again k (drop 3 u) (element_octets_law false i h) (element_fits false i h))
       (sym (kept_wholes 3 (form_of k) u ou (omega arith)))
 
   -- m objects from object i on
@@ -243,7 +243,7 @@ module _ (k : Kind) (s : List ℕ) (o : Octets s) (c : Accepted k s) where
       (objects_accepted k q (first_address (record_in k s)) (object_in k q s) (count_in s) 0
       (λ j h.
       let g = within (suc j) (omega arith) in
-      object_accepted k q (first_address (record_in k s)) j (object_in k q s j) (value-kind k s o q j g) (value-accepted k s o q j g) (low q refl j (omega arith))
+      object_accepted k q (first_address (record_in k s)) j (object_in k q s j) (value_kind_law k s o q j g) (value_accepted k s o q j g) (low q refl j (omega arith))
       (λ e. rises q j e ∙ ap (λ (a : ℕ). a + j) (sym (first_is e)))))
 
   -- header, address and objects together

@@ -38,7 +38,7 @@ use denote.Triple.Clauses.{ensured, lasts}
 use Rattle.asdu_walk.specs.Places.{after_of}
 use Rattle.asdu_walk.specs.declared.Place.{Place}
 use Rattle.asdu_walk.specs.declared.Walk.{Walk}
-use Rattle.asdu_walk.proofs.Held.{B, D, L, at, fields, slice_val_of, place_val, held, walk_val, IsPlace, place_field, place_told, place_typed, held-typed}
+use Rattle.asdu_walk.proofs.Held.{B, D, L, at, fields, slice_val_of, place_val, held, walk_val, IsPlace, place_field, place_told, place_typed, held_typed}
 use Rattle.asdu_walk.specs.contracts.Place as P
 use Rattle.asdu_walk.proofs.Place.TheLaws as P'
 use Rattle.asdu_walk.proofs.Walk.TheLaws as T'
@@ -113,7 +113,7 @@ module _ {M : Type 1} {𝓤 : Ura M} (𝓛 : Logic 𝓤) (mem : Memory → SProp
         -- [what the place owns; the token; what the struct owns; _4; …; room for _3; …; _2; …; _1; …; room for _0; …]
         peeks ! P.the_row (Is P.the_row) (shows 𝓛 P.the_row) p (u ∷ []) (λ next.
         land ! (from ! (stop !)) (init ! 5 refl (place_typed 𝓛 p u next)) $
-        assigns ! (agg ! (and_then ! (load ! (from ! (stop !)) (look ! 7 refl)) (and_then ! (load ! (from ! (stop !)) (look ! 5 refl)) (no_more !)))) (from ! (stop !)) (init ! 11 refl (held-typed 𝓛 κ d.asdu is p u next)) $
+        assigns ! (agg ! (and_then ! (load ! (from ! (stop !)) (look ! 7 refl)) (and_then ! (load ! (from ! (stop !)) (look ! 5 refl)) (no_more !)))) (from ! (stop !)) (init ! 11 refl (held_typed 𝓛 κ d.asdu is p u next)) $
         returns ! (look ! 11 refl) $ forget ! 3 refl $ forget ! 5 refl $ forget ! 7 refl $ forget ! 9 refl $ forget ! 11 refl $
         move ! (11 ∷ 12 ∷ []) $ free1 ! $ move ! (9 ∷ 10 ∷ []) $ free1 ! $ move ! (7 ∷ 8 ∷ []) $ free1 ! $ move ! (5 ∷ 6 ∷ []) $ free1 ! $ move ! (3 ∷ 4 ∷ []) $ free1 ! $ free0 ! $ by ! (exits p u next e))))))))))
 

@@ -37,7 +37,7 @@ use denote.Exit.{yes}
 use denote.Triple.Clauses.{ensured, lasts}
 use Rattle.asdu_walk.specs.Places.{start_of}
 use Rattle.asdu_walk.specs.declared.Place.{Place}
-use Rattle.asdu_walk.proofs.Held.{D, L, at, slice_val_of, place_val, held, IsPlace, place_told, place_typed, held-typed}
+use Rattle.asdu_walk.proofs.Held.{D, L, at, slice_val_of, place_val, held, IsPlace, place_told, place_typed, held_typed}
 use Rattle.asdu_walk.specs.contracts.Place as P
 use Rattle.asdu_walk.specs.contracts.start as start
 use Rattle.asdu_walk.proofs.start.Symbol as start-def
@@ -100,7 +100,7 @@ module _ {M : Type 1} {𝓤 : Ura M} (𝓛 : Logic 𝓤) (mem : Memory → SProp
         -- [what the place owns; the token; what asdu owns; room for _2; …; _1; …; room for _0; …]
         peeks ! P.the_row (Is P.the_row) (shows 𝓛 P.the_row) p (u ∷ []) (λ place.
         land ! (from ! (stop !)) (init ! 3 refl (place_typed 𝓛 p u place)) $
-        assigns ! (agg ! (and_then ! (load ! (from ! (stop !)) (look ! 5 refl)) (and_then ! (load ! (from ! (stop !)) (look ! 3 refl)) (no_more !)))) (from ! (stop !)) (init ! 7 refl (held-typed 𝓛 κ s is p u place)) $
+        assigns ! (agg ! (and_then ! (load ! (from ! (stop !)) (look ! 5 refl)) (and_then ! (load ! (from ! (stop !)) (look ! 3 refl)) (no_more !)))) (from ! (stop !)) (init ! 7 refl (held_typed 𝓛 κ s is p u place)) $
         returns ! (look ! 7 refl) $ forget ! 3 refl $ forget ! 5 refl $ forget ! 7 refl $ move ! (7 ∷ 8 ∷ []) $ free1 ! $ move ! (5 ∷ 6 ∷ []) $ free1 ! $ move ! (3 ∷ 4 ∷ []) $ free1 ! $ free0 ! $ by ! (exits p u place e))))))))
 
 module _ {M : Type 1} {𝓤 : Ura M} (𝓛 : Logic 𝓤) (mem : Memory → SProp 𝓤) (run : Routine → Fun 𝓤) where

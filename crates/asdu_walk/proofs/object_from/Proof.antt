@@ -39,7 +39,7 @@ use denote.Triple.Clauses.{ensured, lasts}
 use Rattle.asdu_walk.specs.Places.{found_at}
 use Rattle.asdu_walk.specs.declared.Place.{Place}
 use Rattle.asdu_walk.specs.declared.Found.{Found}
-use Rattle.asdu_walk.proofs.Held.{B, D, L, at, slice_val_of, place_val, walk_val, IsPlace, place_typed, found_typed, held-typed-local}
+use Rattle.asdu_walk.proofs.Held.{B, D, L, at, slice_val_of, place_val, walk_val, IsPlace, place_typed, found_typed, held_typed_local}
 use Rattle.asdu_walk.specs.contracts.Place as P
 use Rattle.asdu_walk.proofs.Place.TheLaws as P'
 use Rattle.asdu_walk.specs.contracts.Found as S
@@ -106,7 +106,7 @@ module _ {M : Type 1} {𝓤 : Ura M} (𝓛 : Logic 𝓤) (mem : Memory → SProp
     walk is place =
         qed 𝓛 (raw (on_entry 𝓛 object-from.signature (κ, tt) (q, tt) (s, (p, tt)) passed) ∷ []) ∵ enter ! C Λ code.function (slice_val_of s ∷ place_val p ∷ []) _ $
         alloc1 ! (λ l₀. alloc1 ! (λ l₁. alloc1 ! (λ l₂. alloc1 ! (λ l₃. alloc0 ! $ params1 ! $ pass1 ! (init ! 4 refl ((shr_slice_Lawful 𝓛 (named 0) κ u8).typed s (slice_val_of s ∷ []) is).0) $ pass1 ! (init ! 2 refl (place_typed 𝓛 p _ place)) $ pass0 ! $
-        assigns ! (agg ! (and_then ! (load ! (from ! (stop !)) (look ! 4 refl)) (and_then ! (load ! (from ! (stop !)) (look ! 2 refl)) (no_more !)))) (from ! (stop !)) (init ! 0 refl (held-typed-local 𝓛 κ s is p _ place)) $
+        assigns ! (agg ! (and_then ! (load ! (from ! (stop !)) (look ! 4 refl)) (and_then ! (load ! (from ! (stop !)) (look ! 2 refl)) (no_more !)))) (from ! (stop !)) (init ! 0 refl (held_typed_local 𝓛 κ s is p _ place)) $
         move ! (8 ∷ []) $ use1 𝓛 (raw ((Next 𝓛 mem run).pre to) ⊛ ‵ Both) (apart place) $ split ! $
         calls_at ! fm (Next 𝓛 mem run) known to (and_then ! (load ! (from ! (stop !)) (look ! 2 refl)) (no_more !)) (λ u.
         use1 𝓛 (later (some (λ (r : Found). ((‵ (flft κ q) ⊛ ‵ ftrue) ⊛ ‵ ((S.the_row).own_val r (u ∷ []))) ⊛ raw (ensured 𝓛 next.ended (next.clauses 𝓛 mem run) (κ, tt) (at s p, tt) tt r)))) (id⊢ 𝓤 _) $ await ! tt $ pick ! (λ r.

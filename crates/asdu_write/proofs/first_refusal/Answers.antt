@@ -2,27 +2,25 @@ use mathlib.Core.Path.{◌≡◌, sym, ap, ◌∙◌}
 use borrow.Author.Rules.{rules}
 use Rattle.elements.specs.Refusals.{refusal}
 use Rattle.objects.specs.Kinds.{type_of, value_kind}
-use Rattle.asdu_write.proofs.Rows.{alone_kind, alone-address, alone-value}
+use Rattle.asdu_write.proofs.Rows.{alone_kind, alone_address, alone_value}
 use Rattle.asdu_write.proofs.first_refusal.Goals as goal
-
--- HELPER NEEDS WORK
-
-given : (c : tie.After-type-of2) → c.before.type-of.result ≡ type_of (value_kind c.before.before.before.args.object.value)
-given c = c.before.type-of.ensures ∙ ap type_of c.before.before.kind-of-value.ensures
 
 pub returns-then-type_of : goal.returns-then-type_of
 returns-then-type_of c =
     let a = c.args in
-    ap refusal (sym (alone_kind a.kind a.object (λ e. c.if-type_of.true (given c.before ∙ (e ∙ sym c.type_of-2.ensures)))))
+    let given = c.type_of.ensures ∙ ap type_of c.kind_of_value.ensures in
+    ap refusal (sym (alone_kind a.kind a.object (λ e. c.if-type_of.true (given ∙ (e ∙ sym c.type_of-2.ensures)))))
 
 pub returns-then-object-gt-MAX_ADDRESS : goal.returns-then-object-gt-MAX_ADDRESS
 returns-then-object-gt-MAX_ADDRESS c =
     let a = c.args in
-    let same = sym (given c.before) ∙ (c.if-type_of.false ∙ c.type_of-2.ensures) in
-    ap refusal (sym (alone-address a.kind a.object same c.if-object-gt-MAX_ADDRESS.true))
+    let given = c.type_of.ensures ∙ ap type_of c.kind_of_value.ensures in
+    let same = sym given ∙ (c.if-type_of.false ∙ c.type_of-2.ensures) in
+    ap refusal (sym (alone_address a.kind a.object same c.if-object-gt-MAX_ADDRESS.true))
 
 pub returns : goal.returns
 returns c =
     let a = c.args in
-    let same = sym (given c.before) ∙ (c.if-type_of.false ∙ c.type_of-2.ensures) in
-    c.value_refusal.ensures ∙ ap refusal (sym (alone-value a.kind a.object same c.if-object-gt-MAX_ADDRESS.false))
+    let given = c.type_of.ensures ∙ ap type_of c.kind_of_value.ensures in
+    let same = sym given ∙ (c.if-type_of.false ∙ c.type_of-2.ensures) in
+    c.value_refusal.ensures ∙ ap refusal (sym (alone_value a.kind a.object same c.if-object-gt-MAX_ADDRESS.false))

@@ -5,7 +5,7 @@ use borrow.Author.Rules.{rules}
 use lib.ListN.{take, drop, length, length-map}
 use Rattle.elements.specs.Refusals.{refusal}
 use Rattle.asdu.specs.Writing.{first_refusal}
-use Rattle.asdu_write.proofs.Rows.{refusal-here, refusal-after, refusal-end}
+use Rattle.asdu_write.proofs.Rows.{refusal_here, refusal_after, refusal_end}
 use Rattle.asdu_write.proofs.later_refusal.Goals as goal
 
 pub loop-i-init : goal.loop-i-init
@@ -13,23 +13,23 @@ loop-i-init c = refl
 
 pub returns-then-not-is_none : goal.returns-then-not-is_none
 returns-then-not-is_none c =
-    let a = c.args.t1 in
-    let l : length a.objects ≡ 127 = sym (length-map a.objects _) ∙ c.well_formed.0.1.1.0.1.0.1 in
-    refusal-here a.count c.loop-i.i a.objects (omega arith) c.args.kind a.sequence c.args.first c.loop-i-test.true
+    let a = c.args.a in
+    let l : length a.objects ≡ 127 = c.well_formed.0.1.1.0.1.0.1 in
+    refusal_here a.count c.loop-i.i a.objects (omega arith) c.args.kind a.sequence c.args.first c.loop-i-test.true
     c.object_refusal-r.ensures c.is_none.ensures c.if-not-is_none.true
     ∙ ap refusal c.loop-i.invariant
 
 pub loop-i-preserved : goal.loop-i-preserved
 loop-i-preserved c =
-    let a = c.args.t1 in
-    let l : length a.objects ≡ 127 = sym (length-map a.objects _) ∙ c.well_formed.0.1.1.0.1.0.1 in
-    refusal-after a.count c.loop-i.i a.objects (omega arith) c.args.kind a.sequence c.args.first c.loop-i-test.true
+    let a = c.args.a in
+    let l : length a.objects ≡ 127 = c.well_formed.0.1.1.0.1.0.1 in
+    refusal_after a.count c.loop-i.i a.objects (omega arith) c.args.kind a.sequence c.args.first c.loop-i-test.true
     c.object_refusal-r.ensures c.is_none.ensures c.if-not-is_none.false
     ∙ c.loop-i.invariant
 
 pub returns : goal.returns
 returns c =
-    let a = c.args.t1 in
-    let l : length a.objects ≡ 127 = sym (length-map a.objects _) ∙ c.well_formed.0.1.1.0.1.0.1 in
-    let none = refusal-end a.count c.loop-i.i a.objects (omega arith) c.args.kind a.sequence c.args.first c.loop-i-test.false in
+    let a = c.args.a in
+    let l : length a.objects ≡ 127 = c.well_formed.0.1.1.0.1.0.1 in
+    let none = refusal_end a.count c.loop-i.i a.objects (omega arith) c.args.kind a.sequence c.args.first c.loop-i-test.false in
     ap refusal (sym none ∙ c.loop-i.invariant)

@@ -5,7 +5,7 @@ use borrow.Author.Rules.{rules}
 use lib.ListN.{take, drop, length, length-map}
 use Rattle.elements.specs.Refusals.{refusal}
 use Rattle.asdu.specs.Writing.{first_refusal}
-use Rattle.asdu_write.proofs.Rows.{refusal-here, refusal-after, refusal-end}
+use Rattle.asdu_write.proofs.Rows.{refusal_here, refusal_after, refusal_end}
 use Rattle.asdu_write.proofs.later_refusal.Given as goal
 
 abbrev pub invariant-loop-i : goal.invariant-loop-i

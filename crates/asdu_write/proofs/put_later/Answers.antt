@@ -7,7 +7,7 @@ use Rattle.laws.proofs.Lists.{sets_append}
 use Rattle.objects.specs.Objects.{blank}
 use Rattle.asdu.specs.Writing.{body_octets, objects_octets}
 use Rattle.asdu_write.proofs.Places.{put_long}
-use Rattle.asdu_write.proofs.Rows.{octets-more, octets-end}
+use Rattle.asdu_write.proofs.Rows.{octets_more, octets_end}
 use Rattle.asdu_write.proofs.put_later.Goals as goal
 
 pub loop-i-init : goal.loop-i-init
@@ -15,18 +15,18 @@ loop-i-init c = (refl, refl, refl)
 
 pub put_body-at-requires : goal.put_body-at-requires
 put_body-at-requires c =
-    let a = c.args.t3 in
-    let l : length a.objects ≡ 127 = sym (length-map a.objects _) ∙ c.well_formed.1.1.0.1.1.0.1.0.1 in
-    let e = octets-more a.count c.loop-i.i a.objects (omega arith) a.sequence c.loop-i-test.true in
+    let a = c.args.a in
+    let l : length a.objects ≡ 127 = c.well_formed.1.1.0.1.1.0.1.0.1 in
+    let e = octets_more a.count c.loop-i.i a.objects (omega arith) a.sequence c.loop-i-test.true in
     let o = body_octets a.sequence (get_or a.objects c.loop-i.i blank) in
     let rest = objects_octets a.sequence (drop (c.loop-i.i + 1) (take a.count a.objects)) in
     omega (arith, ap length e, length-append o rest)
 
 pub loop-i-preserved : goal.loop-i-preserved
 loop-i-preserved c =
-    let a = c.args.t3 in
-    let l : length a.objects ≡ 127 = sym (length-map a.objects _) ∙ c.well_formed.1.1.0.1.1.0.1.0.1 in
-    let e = octets-more a.count c.loop-i.i a.objects (omega arith) a.sequence c.loop-i-test.true in
+    let a = c.args.a in
+    let l : length a.objects ≡ 127 = c.well_formed.1.1.0.1.1.0.1.0.1 in
+    let e = octets_more a.count c.loop-i.i a.objects (omega arith) a.sequence c.loop-i-test.true in
     let o = body_octets a.sequence (get_or a.objects c.loop-i.i blank) in
     let rest = objects_octets a.sequence (drop (c.loop-i.i + 1) (take a.count a.objects)) in
     let p = c.put_body-at.ensures in (
@@ -37,7 +37,7 @@ loop-i-preserved c =
 
 pub returns : goal.returns
 returns c =
-    let a = c.args.t3 in
-    let l : length a.objects ≡ 127 = sym (length-map a.objects _) ∙ c.well_formed.1.1.0.1.1.0.1.0.1 in
-    let e = octets-end a.count c.loop-i.i a.objects (omega arith) a.sequence c.loop-i-test.false in
+    let a = c.args.a in
+    let l : length a.objects ≡ 127 = c.well_formed.1.1.0.1.1.0.1.0.1 in
+    let e = octets_end a.count c.loop-i.i a.objects (omega arith) a.sequence c.loop-i-test.false in
     record { stored = rw e at c.loop-i.invariant.1; next = omega (arith, ap length e, c.loop-i.invariant.2) }

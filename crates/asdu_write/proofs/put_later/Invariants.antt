@@ -7,7 +7,7 @@ use Rattle.laws.proofs.Lists.{sets_append}
 use Rattle.objects.specs.Objects.{blank}
 use Rattle.asdu.specs.Writing.{body_octets, objects_octets}
 use Rattle.asdu_write.proofs.Places.{put_long}
-use Rattle.asdu_write.proofs.Rows.{octets-more, octets-end}
+use Rattle.asdu_write.proofs.Rows.{octets_more, octets_end}
 use Rattle.asdu_write.proofs.put_later.Given as goal
 
 abbrev pub invariant-loop-i : goal.invariant-loop-i

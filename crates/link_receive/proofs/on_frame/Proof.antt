@@ -1,7 +1,7 @@
 -- `link_receive::on_frame` meets its contract. Assumes nothing.
 use mathlib.Core.Path.{refl}
 use Rattle.link.specs.Events.{on_answer}
-use Rattle.link_steps.proofs.Unchanged.{u-times, does_same}
+use Rattle.link_steps.proofs.Unchanged.{u_times, does_same}
 use Rattle.link_receive.proofs.Incoming.{frame_answered, frame_refused}
 use borrow.Author.Rules.{rules}
 use Rattle.link_receive.proofs.on_frame.Statement.{statement}
@@ -66,7 +66,7 @@ unfolding on_answer
 returns-3 c =
     let a = c.before.before.before.before.before.before.before.before.before.before.before.before.args in
     let u = c.before.before.before.before.before.answer3.given.0.0 in
-    let done = does_same (c.before.before.on-u.ensures a.times.now a.pool.now) (u-times a.s a.times.now a.pool.now a.moment u a.more) in
+    let done = does_same (c.before.before.on-u.ensures a.times.now a.pool.now) (u_times a.s a.times.now a.pool.now a.moment u a.more) in
     frame_answered a.f.now a.s a.times.now a.pool.now a.out.now a.more a.moment c.before.before.before.before.before.before.before.read-frame.ensures c.before.before.before.before.before.answer3.given.1 done
 
 returns-4 : tie.Need-returns-4

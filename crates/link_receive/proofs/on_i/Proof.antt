@@ -7,7 +7,7 @@ use Rattle.elements.specs.Refusals.{wrong_send_number}
 use Rattle.link_state.specs.declared.State.{State}
 use Rattle.link.specs.Events.{release, received, closing, on_i}
 use Rattle.link_steps.proofs.Made.{answers_closing}
-use Rattle.link_receive.proofs.Incoming.{timed_by, Released, open_received, released, frees_held, i-refused, i_frees}
+use Rattle.link_receive.proofs.Incoming.{timed_by, Released, open_received, released, frees_held, i_refused, i_frees}
 use borrow.Author.Rules.{rules}
 use Rattle.link_receive.proofs.on_i.Statement.{statement}
 use Rattle.link_receive.proofs.on_i.Tie as tie
@@ -51,7 +51,7 @@ close-requires-2 c κs = search rules
 returns-2 : tie.Need-returns-2
 returns-2 c =
     let a = c.before.before.before.before.before.before.before.before.before.before.before.args in
-    i-refused a.s a.number.0 a.times.now a.pool.now a.out.now a.more a.moment c.before.before.before.before.acknowledge.ensures c.before.before.enum_told.given.1 c.before.refusal.ensures c.close2.ensures a.sent.0 c.before.before.before.before.before.if1.false
+    i_refused a.s a.number.0 a.times.now a.pool.now a.out.now a.more a.moment c.before.before.before.before.acknowledge.ensures c.before.before.enum_told.given.1 c.before.refusal.ensures c.close2.ensures a.sent.0 c.before.before.before.before.before.if1.false
 
 receive-one-requires : tie.Need-receive-one-requires
 receive-one-requires c κs =

@@ -2,7 +2,7 @@
 use mathlib.Core.Path.{◌≡◌, ap, ◌∙◌}
 use native.Mathlib.Omega.{arith}
 use Rattle.link_state.specs.declared.State.{State}
-use Rattle.link_receive.proofs.Incoming.{timed_by, released, frees_held, s-refused, s_frees}
+use Rattle.link_receive.proofs.Incoming.{timed_by, released, frees_held, s_refused, s_frees}
 use borrow.Author.Rules.{rules}
 use Rattle.link_receive.proofs.on_s.Statement.{statement}
 use Rattle.link_receive.proofs.on_s.Tie as tie
@@ -25,7 +25,7 @@ close-requires c κs = search rules
 returns : tie.Need-returns
 returns c =
     let a = c.before.before.before.before.before.before.before.before.args in
-    s-refused a.s a.number.0 a.times.now a.pool.now a.out.now a.more a.moment c.before.before.before.before.acknowledge.ensures c.before.before.enum_told.given.1 c.before.refusal.ensures c.close.ensures
+    s_refused a.s a.number.0 a.times.now a.pool.now a.out.now a.more a.moment c.before.before.before.before.acknowledge.ensures c.before.before.enum_told.given.1 c.before.refusal.ensures c.close.ensures
 
 release-requires : tie.Need-release-requires
 release-requires c κs =

@@ -3,7 +3,7 @@ use mathlib.Core.Path.{◌≡◌, sym, ◌∙◌}
 use lib.ListN.{length, length-map}
 use Rattle.elements.proofs.Refused.{none}
 use Rattle.link.specs.Events.{frame, event_outcome}
-use Rattle.link_steps.proofs.Calls.{opened, few_unconfirmed, call_refused, call-does}
+use Rattle.link_steps.proofs.Calls.{opened, few_unconfirmed, call_refused, call_does}
 use borrow.Author.Rules.{rules}
 use Rattle.link_receive.proofs.receive.Statement.{statement}
 use Rattle.link_receive.proofs.receive.Tie as tie
@@ -44,7 +44,7 @@ unfolding event_outcome
 returns-2 c =
     let s = c.before.before.before.before.before.before.before.before.before.before.before.before.before.before in
     let passes = none _ c.before.before.before.before.before.before.before.before.before.before.check-call.ensures c.before.before.before.before.before.before.before.before.before.is_none.ensures c.before.before.before.before.before.before.before.before.if1.false in
-    call-does (frame s.args.f.now s.args.more) s.args.l s.args.pool.now s.args.out.now s.args.moment passes c.end-call.ensures c.before.before.before.before.on_frame_law.ensures
+    call_does (frame s.args.f.now s.args.more) s.args.l s.args.pool.now s.args.out.now s.args.moment passes c.end-call.ensures c.before.before.before.before.on_frame_law.ensures
 
 pub receive-spec : {M : Type 1} → statement M
 receive-spec =

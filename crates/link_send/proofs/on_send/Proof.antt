@@ -1,6 +1,6 @@
 -- `link_send::on_send` meets its contract. Assumes nothing.
 use Rattle.link.specs.Events.{send_by}
-use Rattle.link_send.proofs.Outgoing.{plain_small, send-answered, send-reserved, send-refused}
+use Rattle.link_send.proofs.Outgoing.{plain_small, send_answered, send_reserved, send_refused}
 use borrow.Author.Rules.{rules}
 use Rattle.link_send.proofs.on_send.Statement.{statement}
 use Rattle.link_send.proofs.on_send.Tie as tie
@@ -41,17 +41,17 @@ returns : tie.Need-returns
 unfolding send_by
 returns c =
     let a = c.before.before.before.before.before.before.before.before.before.before.before.before.before.before.before.before.before.args in
-    send-answered a.asdu.now c.before.before.before.before.before.before.before.before.before.before.before.before.plain-asdu.ensures a.s a.times.now a.pool.now a.out.now a.moment c.before.before.before.before.before.before.before.before.before.before.enum_told.given.1 c.before.before.before.before.before.before.send-plain.ensures
+    send_answered a.asdu.now c.before.before.before.before.before.before.before.before.before.before.before.before.plain-asdu.ensures a.s a.times.now a.pool.now a.out.now a.moment c.before.before.before.before.before.before.before.before.before.before.enum_told.given.1 c.before.before.before.before.before.before.send-plain.ensures
 
 returns-2 : tie.Need-returns-2
 returns-2 c =
     let a = c.before.before.before.before.before.before.before.before.args in
-    send-reserved a.asdu.now c.before.before.before.plain-asdu.ensures a.s a.times.now a.pool.now a.out.now a.moment c.before.enum-told2.given.1 c.refuse.ensures
+    send_reserved a.asdu.now c.before.before.before.plain-asdu.ensures a.s a.times.now a.pool.now a.out.now a.moment c.before.enum-told2.given.1 c.refuse.ensures
 
 returns-3 : tie.Need-returns-3
 returns-3 c =
     let a = c.before.before.before.before.before.before.before.before.before.args in
-    send-refused a.asdu.now c.before.before.before.before.plain-asdu.ensures a.s a.times.now a.pool.now a.out.now a.moment c.before.before.answer.given.1 c.refuse2.ensures
+    send_refused a.asdu.now c.before.before.before.before.plain-asdu.ensures a.s a.times.now a.pool.now a.out.now a.moment c.before.before.answer.given.1 c.refuse2.ensures
 
 pub on-send-spec : {M : Type 1} → statement M
 on-send-spec =

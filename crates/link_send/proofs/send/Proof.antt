@@ -3,7 +3,7 @@ use mathlib.Core.Path.{◌≡◌, sym, ◌∙◌}
 use lib.ListN.{length, length-map}
 use Rattle.elements.proofs.Refused.{none}
 use Rattle.link.specs.Events.{send, event_outcome}
-use Rattle.link_steps.proofs.Calls.{opened, call_refused, call-sends}
+use Rattle.link_steps.proofs.Calls.{opened, call_refused, call_sends}
 use borrow.Author.Rules.{rules}
 use Rattle.link_send.proofs.send.Statement.{statement}
 use Rattle.link_send.proofs.send.Tie as tie
@@ -47,7 +47,7 @@ unfolding event_outcome
 returns-2 c =
     let s = c.before.before.before.before.before.before.before.before.before.before.before.before.before.before.before.before.before in
     let passes = none _ c.before.before.before.before.before.before.before.before.before.before.before.before.before.check-call.ensures c.before.before.before.before.before.before.before.before.before.before.before.before.is_none.ensures c.before.before.before.before.before.before.before.before.before.before.before.if1.false in
-    let r = call-sends (send s.args.asdu.now) s.args.l s.args.pool.now s.args.out.now s.args.moment passes c.end-call.ensures c.before.before.before.before.before.before.on_send_law.ensures in
+    let r = call_sends (send s.args.asdu.now) s.args.l s.args.pool.now s.args.out.now s.args.moment passes c.end-call.ensures c.before.before.before.before.before.before.on_send_law.ensures in
     (r.0, (r.1, r.2))
 
 pub send-spec : {M : Type 1} → statement M

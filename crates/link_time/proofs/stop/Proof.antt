@@ -3,7 +3,7 @@ use lib.ListN.{length}
 use Rattle.elements.proofs.Refused.{none}
 use Rattle.link.specs.Events.{stop, event_outcome}
 use Rattle.link_steps.proofs.Unchanged.{stop_times, does_same}
-use Rattle.link_steps.proofs.Calls.{calm, call_refused, call-does}
+use Rattle.link_steps.proofs.Calls.{calm, call_refused, call_does}
 use borrow.Author.Rules.{rules}
 use Rattle.link_time.proofs.stop.Statement.{statement}
 use Rattle.link_time.proofs.stop.Tie as tie
@@ -42,7 +42,7 @@ returns-2 c =
     let l = s.args.l in
     let pool = s.args.pool.now in
     let passes = none _ c.before.before.before.before.before.before.before.before.check-call.ensures c.before.before.before.before.before.before.before.is_none.ensures c.before.before.before.before.before.before.if1.false in
-    call-does stop s.args.l s.args.pool.now s.args.out.now s.args.moment passes c.end-call.ensures (does_same (c.before.before.before.on_stop_law.ensures l.times pool) (stop_times l.state l.times pool s.args.moment))
+    call_does stop s.args.l s.args.pool.now s.args.out.now s.args.moment passes c.end-call.ensures (does_same (c.before.before.before.on_stop_law.ensures l.times pool) (stop_times l.state l.times pool s.args.moment))
 
 pub stop-spec : {M : Type 1} → statement M
 stop-spec =

@@ -4,7 +4,7 @@ use lib.ListN.{length, length-map}
 use Rattle.elements.proofs.Refused.{none}
 use Rattle.link.specs.Events.{tick, event_outcome}
 use Rattle.link_steps.proofs.Unchanged.{tick_times, does_same}
-use Rattle.link_steps.proofs.Calls.{calm, aged, call_refused, call-does}
+use Rattle.link_steps.proofs.Calls.{calm, aged, call_refused, call_does}
 use borrow.Author.Rules.{rules}
 use Rattle.link_time.proofs.tick.Statement.{statement}
 use Rattle.link_time.proofs.tick.Tie as tie
@@ -47,7 +47,7 @@ returns-2 c =
     let l = s.args.l in
     let pool = s.args.pool.now in
     let passes = none _ c.before.before.before.before.before.before.before.before.before.check-call.ensures c.before.before.before.before.before.before.before.before.is_none.ensures c.before.before.before.before.before.before.before.if1.false in
-    call-does tick s.args.l s.args.pool.now s.args.out.now s.args.moment passes c.end-call.ensures (does_same (c.before.before.before.on_tick_law.ensures pool) (tick_times l.state l.times pool s.args.moment))
+    call_does tick s.args.l s.args.pool.now s.args.out.now s.args.moment passes c.end-call.ensures (does_same (c.before.before.before.on_tick_law.ensures pool) (tick_times l.state l.times pool s.args.moment))
 
 pub tick-spec : {M : Type 1} → statement M
 tick-spec =
