@@ -16,5 +16,5 @@ pub returns : goal.returns
 unfolding asdu_octets
 returns c =
     let start = c.args in
-    put_then (header_put start.t2 start.out.now c.put_header.ensures)
+    put_then (header_put start.a start.out.now c.put_header.ensures)
     (put_then c.put_first-from.ensures c.put_bodies.ensures)
