@@ -1,0 +1,8 @@
+use mathlib.Core.Path.{refl}
+use borrow.Author.Rules.{rules}
+use Rattle.link.specs.Making.{sent_of}
+use Rattle.link_steps.proofs.steps.sent.Goals as goal
+
+pub returns : goal.returns
+unfolding sent_of
+returns c = refl

@@ -1,0 +1,8 @@
+use mathlib.Core.Path.{refl}
+use borrow.Author.Rules.{rules}
+use Rattle.link.specs.Making.{shifted}
+use Rattle.link_steps.proofs.waiting.shift.Goals as goal
+
+pub returns : goal.returns
+unfolding shifted
+returns c = refl
