@@ -74,7 +74,7 @@ module _ (l : Link) (output pool now : ℕ) (e : call_refusal l output pool now 
 -- ---- what the call answers
 
 module _ (e : Event) (l : Link) (pool out : List ℕ) (now : ℕ) where
-  pub call_refused : {w : Refusal} {b : Bool} {a : Called} → w ≡ refusal (call_refusal l (length out) (length pool) now) → b ≡ eqb w.0 0 → not b ≡ true → a ≡ refused_call l w
+  pub call_refused : {w : Refusal} {b : Bool} {a : Called} → w ≡ refusal (call_refusal l (length out) (length pool) now) → b ≡ eqb w.0 0 → b ≡ false → a ≡ refused_call l w
       → (a ≡ called_of (called e l pool (length out) now))
       × (pool ≡ (called e l pool (length out) now).pool)
       × (out ≡ sets out 0 (wire (called e l pool (length out) now).frames))
