@@ -19,11 +19,8 @@ use Rattle.assembly.specs.Stepping.{after_moved, after_top_up, after_pick, step_
 use Rattle.assembly.specs.declared.start.StartAnswer.{StartAnswer}
 use Rattle.assembly.specs.declared.start.StartAnswer.TheVariants.{Whole, More, Refused}
 use Rattle.assembly.specs.declared.picking.PickAnswer.{PickAnswer}
-use Rattle.assembly.specs.declared.picking.PickAnswer.TheVariants as PickAnswer
 use Rattle.assembly.specs.declared.topping.TopUpAnswer.{TopUpAnswer}
-use Rattle.assembly.specs.declared.topping.TopUpAnswer.TheVariants as TopUpAnswer
 use Rattle.assembly.specs.declared.stepping.StepAnswer.{StepAnswer}
-use Rattle.assembly.specs.declared.stepping.StepAnswer.TheVariants as StepAnswer
 use Rattle.assembly.proofs.Hands.{carry_fits}
 use Rattle.assembly.proofs.Sights.{Sight, few, part, whole, bad, few_more, view, frame_of, bad_of, more_few, first_whole, start_short}
 

@@ -5,7 +5,6 @@ use Rattle.laws.specs.Choice.{pick}
 use Rattle.elements.specs.Refusals.{refusal}
 use Rattle.assembly.specs.Start.{start_answer, carry_refusal}
 use Rattle.assembly.specs.declared.start.StartAnswer.{StartAnswer}
-use Rattle.assembly.specs.declared.start.StartAnswer.TheVariants as StartAnswer
 use Rattle.assembly.specs.declared.picking.PickAnswer.{PickAnswer}
 use Rattle.assembly.specs.declared.picking.PickAnswer.TheVariants.{Carry, Chunk, More, Refused}
 

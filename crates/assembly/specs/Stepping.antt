@@ -4,9 +4,7 @@ use Rattle.std.proofs.lemmas.List.Edits.{sets}
 use Rattle.assembly.specs.Picking.{pick_answer}
 use Rattle.assembly.specs.Topping.{top_up_answer, topped}
 use Rattle.assembly.specs.declared.picking.PickAnswer.{PickAnswer}
-use Rattle.assembly.specs.declared.picking.PickAnswer.TheVariants as PickAnswer
 use Rattle.assembly.specs.declared.topping.TopUpAnswer.{TopUpAnswer}
-use Rattle.assembly.specs.declared.topping.TopUpAnswer.TheVariants as TopUpAnswer
 use Rattle.assembly.specs.declared.stepping.StepAnswer.{StepAnswer}
 use Rattle.assembly.specs.declared.stepping.StepAnswer.TheVariants.{Chunk, Carry, More, Refused}
 

@@ -26,7 +26,8 @@ mod links;
 
 use drive_link::commands;
 use drive_link::commands::Command;
-use libc::{STDIN_FILENO, STDOUT_FILENO};
+use std::io;
+use std::io::Read;
 use test_text::{answers, text};
 
 // The longest answer, of a link that hands out 16 full frames, has under 8,300 bytes.
@@ -70,89 +71,113 @@ fn answer_held(
     answer(out, text::part_to(line, held), list, pool)
 }
 
-fn run(line: &[u8], held: usize, out: &mut [u8], list: &mut [u64], pool: &mut [u8]) {
+fn run(
+    rt: &impl Print,
+    line: &[u8],
+    held: usize,
+    out: &mut [u8],
+    list: &mut [u64],
+    pool: &mut [u8],
+) -> io::Result<()> {
     let end = answer_held(out, line, held, list, pool);
     let end = text::put_byte(out, end, b'\n');
-    io::write_all(STDOUT_FILENO, text::part_to(out, end));
+    rt.write_all(text::part_to(out, end))
 }
 
 // A line's end has it answered; any other byte is held. The result is how many bytes are held then.
 fn take_byte(
+    rt: &impl Print,
     byte: u8,
     line: &mut [u8],
     held: usize,
     out: &mut [u8],
     list: &mut [u64],
     pool: &mut [u8],
-) -> usize {
+) -> io::Result<usize> {
     if byte == b'\n' {
-        run(line, held, out, list, pool);
-        return 0;
+        run(rt, line, held, out, list, pool)?;
+        return Ok(0);
     }
-    text::put_byte(line, held, byte)
+    Ok(text::put_byte(line, held, byte))
 }
 
 fn take_bytes(
+    rt: &impl Print,
     bytes: &[u8],
     line: &mut [u8],
     held: usize,
     out: &mut [u8],
     list: &mut [u64],
     pool: &mut [u8],
-) -> usize {
+) -> io::Result<usize> {
     let mut holding = held;
     let mut i: usize = 0;
     while i < bytes.len() {
-        holding = take_byte(bytes[i], line, holding, out, list, pool);
+        holding = take_byte(rt, bytes[i], line, holding, out, list, pool)?;
         i += 1;
     }
-    holding
+    Ok(holding)
 }
 
 // What has come so far, so that a line is answered before the next one is there.
 fn take_some(
+    rt: &impl Print,
+    commands: &mut impl Read,
     line: &mut [u8],
     input: Input,
     out: &mut [u8],
     list: &mut [u64],
     pool: &mut [u8],
-) -> Input {
+) -> io::Result<Input> {
     let mut bytes = [0u8; 4096];
-    let got = libc::read(STDIN_FILENO, &mut bytes);
-    let n = io::count(got, &bytes);
+    let n = commands.read(&mut bytes)?;
     if n == 0 {
-        return Input {
+        return Ok(Input {
             going: false,
             held: input.held,
-        };
+        });
     }
-    Input {
-        going: true,
-        held: take_bytes(&bytes[..n], line, input.held, out, list, pool),
-    }
+    let held = take_bytes(rt, &bytes[..n], line, input.held, out, list, pool)?;
+    Ok(Input { going: true, held })
 }
 
 // A proved loop ends: this one by a count that no input uses up.
-fn take_all(line: &mut [u8], out: &mut [u8], list: &mut [u64], pool: &mut [u8]) -> usize {
+fn take_all(
+    rt: &impl Print,
+    commands: &mut impl Read,
+    line: &mut [u8],
+    out: &mut [u8],
+    list: &mut [u64],
+    pool: &mut [u8],
+) -> io::Result<usize> {
     let mut input = Input {
         going: true,
         held: 0,
     };
     let mut turns = u64::MAX;
     while turns > 0 && input.going {
-        input = take_some(line, input, out, list, pool);
+        input = take_some(rt, commands, line, input, out, list, pool)?;
         turns -= 1;
     }
-    input.held
+    Ok(input.held)
 }
 
-fn main() {
+fn main(rt: HostRuntime) -> io::Result<()> {
+    let mut commands = rt.stdin();
     let mut line = [0u8; test_text::LINE_SIZE];
     let mut out = [0u8; ANSWER_SIZE];
     let mut list = [0u64; drive_link::LIST_SIZE];
     let mut pool = [0u8; links::POOL_SIZE];
-    let held = take_all(&mut line, &mut out, &mut list, &mut pool);
+    let held = take_all(
+        &rt,
+        &mut commands,
+        &mut line,
+        &mut out,
+        &mut list,
+        &mut pool,
+    )?;
     if 0 < held {
-        run(&line, held, &mut out, &mut list, &mut pool);
+        run(&rt, &line, held, &mut out, &mut list, &mut pool)?;
     }
+    Ok(())
 }

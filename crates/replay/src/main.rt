@@ -10,8 +10,11 @@ mod lines;
 mod octets;
 mod streams;
 
-use libc::{STDIN_FILENO, STDOUT_FILENO};
+ghost use Rattle.std.specs.Prelude.{◌≤◌, length, IfOk};
+
 use lines::MAX_LINE;
+use std::io;
+use std::io::Read;
 use test_text::text;
 
 const HEAD: usize = 12;
@@ -23,58 +26,74 @@ struct Tally {
     differing: u64,
 }
 
-// Its first bytes tell how long a line is.
-fn read_line(line: &mut [u8]) -> usize {
-    if line.len() < MAX_LINE {
-        return 0;
+// Reads until the buffer is full or the input ends, and tells how many bytes it holds then.
+fn read_full(input: &mut impl Read, buffer: &mut [u8]) -> io::Result<usize>
+    ensures { IfOk result (λ n. n ≤ length buffer.new) }
+{
+    let mut done: usize = 0;
+    while done < buffer.len() {
+        let n = input.read(&mut buffer[done..])?;
+        if n == 0 {
+            return Ok(done);
+        }
+        done += n;
     }
-    let head = io::read_full(STDIN_FILENO, &mut line[0..HEAD]);
+    Ok(done)
+}
+
+// Its first bytes tell how long a line is.
+fn read_line(input: &mut impl Read, line: &mut [u8]) -> io::Result<usize> {
+    if line.len() < MAX_LINE {
+        return Ok(0);
+    }
+    let head = read_full(input, &mut line[0..HEAD])?;
     if head < HEAD {
-        return head;
+        return Ok(head);
     }
     let end = lines::length(line);
     if end < HEAD {
-        return head;
+        return Ok(head);
     }
-    head + io::read_full(STDIN_FILENO, &mut line[HEAD..end])
+    let rest = read_full(input, &mut line[HEAD..end])?;
+    Ok(head + rest)
 }
 
 fn agrees(line: &[u8; MAX_LINE], len: usize) -> bool {
     lines::agrees(text::part_to(line, len))
 }
 
-fn show(line: &[u8; MAX_LINE], len: usize) {
-    io::write_all(STDOUT_FILENO, text::part_to(line, len));
+fn show(rt: &impl Print, line: &[u8; MAX_LINE], len: usize) -> io::Result<()> {
+    rt.write_all(text::part_to(line, len))
 }
 
-fn replay_one(tally: Tally) -> Tally {
+fn replay_one(rt: &impl Print, input: &mut impl Read, tally: Tally) -> io::Result<Tally> {
     let mut line = [0u8; MAX_LINE];
-    let read = read_line(&mut line);
+    let read = read_line(input, &mut line)?;
     if read == 0 {
-        return Tally {
+        return Ok(Tally {
             going: false,
             cases: tally.cases,
             differing: tally.differing,
-        };
+        });
     }
     let cases = std::num::wrapping_add_u64(tally.cases, 1);
     if agrees(&line, read) {
-        return Tally {
+        return Ok(Tally {
             going: true,
             cases,
             differing: tally.differing,
-        };
+        });
     }
-    show(&line, read);
-    Tally {
+    show(rt, &line, read)?;
+    Ok(Tally {
         going: true,
         cases,
         differing: std::num::wrapping_add_u64(tally.differing, 1),
-    }
+    })
 }
 
 // A proved loop ends: this one by a count that no sample uses up.
-fn replay_all() -> Tally {
+fn replay_all(rt: &impl Print, input: &mut impl Read) -> io::Result<Tally> {
     let mut tally = Tally {
         going: true,
         cases: 0,
@@ -82,16 +101,14 @@ fn replay_all() -> Tally {
     };
     let mut turns: u64 = 1000000;
     while turns > 0 && tally.going {
-        tally = replay_one(tally);
+        tally = replay_one(rt, input, tally)?;
         turns -= 1;
     }
-    tally
+    Ok(tally)
 }
 
-fn main() {
-    let tally = replay_all();
-    io::print_decimal(STDOUT_FILENO, tally.cases);
-    io::write_all(STDOUT_FILENO, b" cases, ");
-    io::print_decimal(STDOUT_FILENO, tally.differing);
-    io::write_all(STDOUT_FILENO, b" differ\n");
+fn main(rt: HostRuntime) -> io::Result<()> {
+    let mut input = rt.stdin();
+    let tally = replay_all(&rt, &mut input)?;
+    println!(rt; "{} cases, {} differ", tally.cases, tally.differing)
 }

@@ -1,10 +1,7 @@
 use mathlib.Core.Path.{sym, ap, ◌∙◌}
-use borrow.Author.Rules.{rules}
 use Rattle.assembly.specs.Picking.{pick_part_by, pick_part}
 use Rattle.assembly.specs.declared.picking.PickAnswer.{PickAnswer}
 use Rattle.assembly.proofs.picking.pick.Goals as goal
-
--- HELPER NEEDS WORK
 
 pub returns-in-Carry : goal.returns-in-Carry
 unfolding pick_part

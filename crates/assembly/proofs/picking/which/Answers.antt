@@ -1,7 +1,6 @@
 use Prim.Native.Nat.{ℕ}
 use mathlib.Core.List.{List}
 use mathlib.Core.Path.{ap, ◌∙◌}
-use borrow.Author.Rules.{rules}
 use borrow.Author.Tests.{lt-ltb, le-ltb}
 use Rattle.elements.proofs.Refused.{none, some}
 use Rattle.assembly.specs.Picking.{from_carry, from_chunk, pick_answer}
@@ -19,10 +18,10 @@ unfolding pick_answer
 returns-then-held-gt0 c =
     let good = none _ c.carry_refusal-refused.ensures c.is_none.ensures c.if-not-is_none.false in
     let seen = c.try_frame.ensures ∙ ap (λ (s : List ℕ). start_answer s) c.part_to.ensures in
-    simp (good, lt-ltb _ _ c.if-held-gt0.true) (c.from_carry_law.ensures ∙ ap from_carry seen)
+    simp (good, lt-ltb _ _ c.if-held-gt0.true) (c.from_carry.ensures ∙ ap from_carry seen)
 
 pub returns : goal.returns
 unfolding pick_answer
 returns c =
     let good = none _ c.carry_refusal-refused.ensures c.is_none.ensures c.if-not-is_none.false in
-    simp (good, le-ltb _ _ c.if-held-gt0.false) (c.from_chunk_law.ensures ∙ ap from_chunk c.try_frame-2.ensures)
+    simp (good, le-ltb _ _ c.if-held-gt0.false) (c.from_chunk.ensures ∙ ap from_chunk c.try_frame-2.ensures)

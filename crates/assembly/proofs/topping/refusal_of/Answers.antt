@@ -1,6 +1,5 @@
 use mathlib.Core.Path.{sym, ap, ◌∙◌}
 use native.Mathlib.Omega.{arith}
-use borrow.Author.Rules.{rules}
 use Rattle.elements.proofs.Refused.{none, stops, goes}
 use Rattle.elements.specs.Refusals.{refusal}
 use Rattle.assembly.specs.Topping.{top_up_refusal}

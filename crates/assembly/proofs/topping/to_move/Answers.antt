@@ -1,5 +1,4 @@
 use mathlib.Core.Path.{sym, ◌∙◌}
-use borrow.Author.Rules.{rules}
 use Rattle.assembly.specs.Topping.{moving}
 use Rattle.assembly.proofs.topping.to_move.Goals as goal
 
@@ -9,4 +8,4 @@ returns-then-too_few c = simp (sym c.too_few.ensures) (simp c.if-too_few.true)
 
 pub returns : goal.returns
 unfolding moving
-returns c = simp (sym c.too_few.ensures) (simp c.if-too_few.false (c.up_to_lem.ensures ∙ simp c.on_hand-length.ensures))
+returns c = simp (sym c.too_few.ensures) (simp c.if-too_few.false (c.up_to.ensures ∙ simp c.on_hand-length.ensures))
