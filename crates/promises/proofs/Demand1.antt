@@ -51,7 +51,7 @@ use Rattle.link_state.specs.declared.Link.{Link}
 use Rattle.link_state.proofs.Sound.{Sound, sound_state, passed}
 use Rattle.link.specs.Frames.{wire, stop_act, stop_con, test_act, test_con}
 use Rattle.link.specs.Making.{Making, with_clock, window_open, window_full, become, confirmed_of, confirm, due, ending, shut}
-use Rattle.link.specs.Events.{Outcome, refusing, closing, accepting, s_freeing, on_s, i_freeing, on_i, test_acted, test_confirmed, on_u, on_answer, on_frame, send_plain, send_by_law, on_send, on_stop, too_many, on_test, is_due, t1i_due, tick_refusal, on_tick, Event, frame, send, stop, test, tick, event_outcome, called}
+use Rattle.link.specs.Events.{Outcome, refusing, closing, accepting, s_freeing, on_s, i_freeing, on_i, test_acted, test_confirmed, on_u, on_answer, on_frame, send_plain, send_by, on_send, on_stop, too_many, on_test, is_due, t1i_due, tick_refusal, on_tick, Event, frame, send, stop, test, tick, event_outcome, called}
 use Rattle.link.specs.Answering.{answer_of, called_of, link_full, link_came}
 use Rattle.link.specs.declared.answers.LinkAnswer.TheVariants as LinkAnswer
 use Rattle.link_meaning.specs.Meaning.{OctetsIn}
@@ -275,8 +275,8 @@ module _ (s : State) (times pool : List ℕ) (now : ℕ) where
       (by_test (leb s.settings.p s.queue.count) (kept queue_full (stays (send asdu) 25 (omega arith) (omega arith)) (omega arith) (omega arith) refl)
       (accepted refl refl (ending_clock false now _) (λ z m. (settled now _).most)))
 
-  send_by_law : (asdu : List ℕ) (q : PlainAnswer) → plain_answer asdu ≡ q → plain_number q ≤ 17 → Ending (send asdu) s times pool now (send_by_law q asdu s times pool now)
-  unfolding send_by_law
+  send_by_law : (asdu : List ℕ) (q : PlainAnswer) → plain_answer asdu ≡ q → plain_number q ≤ 17 → Ending (send asdu) s times pool now (send_by q asdu s times pool now)
+  unfolding send_by
   send_by_law asdu PlainAnswer.Plain e h = plain_ending asdu
   send_by_law asdu PlainAnswer.Reserved e h = kept not_plain_form (stays (send asdu) 26 (omega arith) (omega arith)) (omega arith) (omega arith) refl
   send_by_law asdu (PlainAnswer.Refused r) e h =

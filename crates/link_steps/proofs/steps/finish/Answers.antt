@@ -4,8 +4,6 @@ use Rattle.link.specs.Making.{ending}
 use Rattle.link_steps.proofs.Made.{makes_confirm, makes_none}
 use Rattle.link_steps.proofs.steps.finish.Goals as goal
 
--- HELPER NEEDS WORK
-
 pub returns-then-must_confirm : goal.returns-then-must_confirm
 unfolding ending
 returns-then-must_confirm c =

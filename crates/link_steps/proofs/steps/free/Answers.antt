@@ -3,8 +3,6 @@ use borrow.Author.Rules.{rules}
 use Rattle.link.specs.Making.{freed_of}
 use Rattle.link_steps.proofs.steps.free.Goals as goal
 
--- HELPER NEEDS WORK
-
 pub returns : goal.returns
 unfolding freed_of
 returns c = refl

@@ -38,7 +38,7 @@ loop-i-preserved c =
     let end = f.ensures.makes.end in
     let short = let_out_short c.args.moment l.m l.times c.args.pool.now (let known : CanLetOut c.loop-i.m (length c.loop-i.times) (length c.args.pool.now) (length c.loop-i.out) c.loop-i.at = let l = c.loop-i in rw (l.invariant.4.makes.state, l.invariant.3, l.invariant.2) (can_let_out c.args.s c.args.n l.i _ _ _ l.at c.args.moment c.args.times.now c.args.pool.now c.requires c.loop-i-test.true l.invariant.1) in known).sends.size_high in
     let so_far = l.invariant.1 in
-    (omega arith, omega arith, f.auto.pool.1.1.0 ∙ l.invariant.2, f.auto.pool.0 ∙ l.invariant.3, rw add-one (hands_then (let_out_appends c.args.moment c.args.pool.now) l.invariant.4 f.ensures))
+    (omega arith, omega arith, f.auto.out ∙ l.invariant.2, f.auto.times ∙ l.invariant.3, rw add-one (hands_then (let_out_appends c.args.moment c.args.pool.now) l.invariant.4 f.ensures))
 
 pub returns : goal.returns
 returns c =
