@@ -1,0 +1,57 @@
+use mathlib.Core.Path.{◌≡◌, refl, ap, ◌∙◌}
+use native.Mathlib.Omega.{arith}
+use lib.ListN.{length}
+use borrow.Author.Tests.{ne_eqb}
+use Rattle.elements.specs.Refusals.{wrong_send_number}
+use Rattle.link_state.specs.declared.State.{State}
+use Rattle.link.specs.Events.{release, received, closing, on_i}
+use Rattle.link_steps.proofs.Made.{answers_closing}
+use Rattle.link_receive.proofs.Incoming.{timed_by, Released, open_received, released, frees_held, i_refused, i_frees}
+use borrow.Author.Rules.{rules}
+use Rattle.link_receive.proofs.on_i.Goals as goal
+
+pub returns-then-sent-s : goal.returns-then-sent-s
+unfolding on_i closing
+returns-then-sent-s c =
+    let a = c.args in
+    rw (ne_eqb _ _ c.if-sent-s.true) (record { answers = answers_closing wrong_send_number a.s a.times.now a.pool.now a.out.now refl c.close.ensures; ring = refl })
+
+pub returns-in_default : goal.returns-in_default
+returns-in_default c =
+    let a = c.args in
+    i_refused a.s a.number.0 a.times.now a.pool.now a.out.now a.more a.moment c.acknowledge-acked.ensures c.in_default.is c.refusal.ensures c.close-in_default.ensures a.sent.0 c.if-sent-s.false
+
+pub release-made-requires : goal.release-made-requires
+unfolding received
+release-made-requires c =
+    let within = frees_held c.args.s.window.next.0 c.args.s.window.held c.args.number.0 c.acknowledge-acked.ensures c.in-Frees.is in
+    rw c.receive_one-counted.ensures (open_received c.args.s _ _ _ _ c.requires.0, within)
+
+pub start_t2-started-requires : goal.start_t2-started-requires
+unfolding received
+start_t2-started-requires c =
+    timed_by (let known : c.release-made.result.state.settings ≡ c.args.s.settings = ap (λ (x : State). x.settings) c.release-made.ensures.makes.state ∙ ((let known : Released c.receive_one-counted.result (release c.in-Frees.freed c.args.moment c.receive_one-counted.result c.args.times.now c.args.pool.now) = let counted = c.receive_one-counted in released counted.result c.args.times.now c.args.pool.now (length c.args.pool.now) (length c.args.out.now) c.args.moment c.in-Frees.freed (rw counted.ensures (open_received c.args.s _ _ _ _ c.requires.0)) in known).settings ∙ ap (λ (x : State). x.settings) c.receive_one-counted.ensures) in known) c.requires.0.calm.timed
+
+pub set_t3-stamped-requires : goal.set_t3-stamped-requires
+unfolding received
+set_t3-stamped-requires c =
+    timed_by (ap (λ (x : State). x.settings) c.start_t2-started.ensures ∙ (let known : c.release-made.result.state.settings ≡ c.args.s.settings = ap (λ (x : State). x.settings) c.release-made.ensures.makes.state ∙ ((let known : Released c.receive_one-counted.result (release c.in-Frees.freed c.args.moment c.receive_one-counted.result c.args.times.now c.args.pool.now) = let counted = c.receive_one-counted in released counted.result c.args.times.now c.args.pool.now (length c.args.pool.now) (length c.args.out.now) c.args.moment c.in-Frees.freed (rw counted.ensures (open_received c.args.s _ _ _ _ c.requires.0)) in known).settings ∙ ap (λ (x : State). x.settings) c.receive_one-counted.ensures) in known)) c.requires.0.calm.timed
+
+pub finish-ended-requires : goal.finish-ended-requires
+finish-ended-requires c =
+    let out = c.release-made in
+    let left = (let known : Released c.receive_one-counted.result (release c.in-Frees.freed c.args.moment c.receive_one-counted.result c.args.times.now c.args.pool.now) = let counted = c.receive_one-counted in released counted.result c.args.times.now c.args.pool.now (length c.args.pool.now) (length c.args.out.now) c.args.moment c.in-Frees.freed (rw counted.ensures (open_received c.args.s _ _ _ _ c.requires.0)) in known) in
+    let end = out.ensures.makes.end in
+    let short = left.short in
+    let next : c.set_t3-stamped.result.receive.next.0 ≡ (received c.args.s).receive.next.0 =
+    ap (λ (x : State). x.receive.next.0) c.set_t3-stamped.ensures
+    ∙ (ap (λ (x : State). x.receive.next.0) c.start_t2-started.ensures ∙ (ap (λ (x : State). x.receive.next.0) out.ensures.makes.state ∙ (left.next ∙ ap (λ (x : State). x.receive.next.0) c.receive_one-counted.ensures))) in
+    let long = out.auto.out in
+    let room = c.requires.0.calm.out_room in
+    let high = (open_received c.args.s _ _ _ _ c.requires.0).calm.recv_high in
+    (omega arith, omega arith)
+
+pub returns : goal.returns
+returns c =
+    let a = c.args in
+    i_frees a.s a.number.0 a.times.now a.pool.now a.out.now a.more a.moment c.acknowledge-acked.ensures a.sent.0 c.if-sent-s.false c.in-Frees.is c.receive_one-counted.ensures c.release-made.ensures c.start_t2-started.ensures c.set_t3-stamped.ensures c.finish-ended.ensures c.accept.ensures

@@ -1,0 +1,19 @@
+use mathlib.Core.Path.{◌≡◌, refl, ap}
+use mathlib.Core.Bool.{false}
+use native.Mathlib.Omega.{arith}
+use Rattle.link_state.specs.declared.State.{State}
+use Rattle.link.specs.Frames.{test_con}
+use Rattle.link.specs.Making.{set_t3}
+use Rattle.link.specs.Events.{test_acted}
+use Rattle.link_steps.proofs.Made.{makes_u, makes_become, answers_ending}
+use borrow.Author.Rules.{rules}
+use Rattle.link_receive.proofs.on_test_act.Goals as goal
+
+pub returns : goal.returns
+unfolding test_acted
+returns c =
+    let a = c.args in
+    λ ts ps.
+    let one = makes_u test_con a.s ts 0 a.out.now {end = 6} refl c.put_start.ensures in
+    let two = makes_become (set_t3 a.moment) one c.set_t3-stamped.ensures in
+    answers_ending false a.more a.moment ps two two.state c.finish-ended.ensures c.accept.ensures

@@ -1,0 +1,36 @@
+use Prim.Native.Nat.{◌*◌}
+use mathlib.Core.Path.{◌≡◌, refl, sym, ap}
+use mathlib.Core.Bool.{false}
+use lib.ListN.{length}
+use lib.Seq.{sets}
+use native.Mathlib.Omega.{arith}
+use borrow.Author.Tests.{lt-ltb, le-ltb, le-leb, lt-leb}
+use Rattle.elements.specs.Refusals.{queue_full}
+use Rattle.link_state.specs.declared.State.{State}
+use Rattle.link.specs.Making.{with_queue, queued, free_slot, window_open}
+use Rattle.link.specs.Events.{start, accepting, send_plain}
+use Rattle.link_steps.proofs.Made.{makes_none, answers_ending}
+use Rattle.link_steps.proofs.Unchanged.{ending_times}
+use Rattle.link_send.proofs.Outgoing.{refuses}
+use borrow.Author.Rules.{rules}
+use Rattle.link_send.proofs.send_plain.Goals as goal
+
+pub returns-then-s : goal.returns-then-s
+unfolding send_plain window_open accepting
+returns-then-s c = rw (lt-ltb _ _ c.if-s.true) (record { does = c.send_now.ensures c.args.pool.now; pool = refl })
+
+pub returns-then-s-2 : goal.returns-then-s-2
+unfolding send_plain window_open
+returns-then-s-2 c =
+    let a = c.args in
+    rw (le-ltb _ _ c.if-s.false, le-leb _ _ c.if-s-2.true) (refuses queue_full a.s a.times.now a.pool.now a.out.now refl c.refuse.ensures)
+
+pub returns : goal.returns
+unfolding send_plain window_open accepting
+returns c =
+    let a = c.args in
+    let t = with_queue a.s (queued a.s.queue (length a.asdu.now)) in
+    let g = start t a.times.now in
+    let pool = sets a.pool.now (free_slot a.s.queue * 249) a.asdu.now in
+    rw (le-ltb _ _ c.if-s.false, lt-leb _ _ c.if-s-2.false)
+    (record { does = record { answers = answers_ending false false a.moment pool (makes_none t a.times.now 0 a.out.now) c.enqueue-queued.ensures.value c.finish-ended.ensures c.accept.ensures; ring = sym (ending_times false a.moment g) }; pool = c.enqueue-queued.ensures.pool_after })

@@ -1,0 +1,57 @@
+use mathlib.Core.Path.{◌≡◌, ap, ◌∙◌}
+use mathlib.Core.Bool.{false}
+use mathlib.Core.List.{[]}
+use native.Mathlib.Omega.{arith}
+use borrow.Author.Rules.{rules}
+use Rattle.elements.specs.declared.refusals.Refusal.{Refusal}
+use Rattle.elements.proofs.Refused.{none, some}
+use Rattle.link_state.specs.declared.State.{State}
+use Rattle.link.specs.Events.{start, tick_refusal, ticked, ticked_t2, on_tick}
+use Rattle.link_steps.proofs.Made.{makes_then, answers_ending, answers_closing}
+use Rattle.link_time.proofs.Ticks.{calm_t2, short_t2, short_t3, next_t3, ticked_t3_appends}
+use Rattle.link_time.proofs.on_tick.Goals as goal
+
+pub returns-then-not-is_none : goal.returns-then-not-is_none
+unfolding on_tick
+returns-then-not-is_none c =
+    let is = c.tick_refusal-refused.ensures in
+    let yes = some (tick_refusal c.args.s c.args.times.now c.args.moment) is c.is_none.ensures c.if-not-is_none.true in
+    let closed = rw (ap (λ (r : Refusal). r.0) is) at c.close.ensures in
+    λ ps. rw yes (answers_closing _ c.args.s c.args.times.now ps c.args.out.now yes closed)
+
+pub tick_t3-tested-requires : goal.tick_t3-tested-requires
+tick_t3-tested-requires c =
+    let t2 = c.tick_t2-confirmed in
+    let done = t2.ensures [] in
+    let end = done.end in
+    let short = short_t2 c.args.s [] 0 c.args.moment in
+    (rw (done.state, t2.auto.out) (calm_t2 c.args.s [] _ c.args.moment c.requires.0), omega arith)
+
+pub finish-ended-requires : goal.finish-ended-requires
+finish-ended-requires c =
+    let t2 = c.tick_t2-confirmed in
+    let t3 = c.tick_t3-tested in
+    let one = t2.ensures [] in
+    let two = t3.ensures [] in
+    let end-one = one.end in
+    let end-two = two.end in
+    let short-one = short_t2 c.args.s [] 0 c.args.moment in
+    let short-two = short_t3 t2.result.state [] 0 c.args.moment c.args.s.timers.t3 in
+    let calm = calm_t2 c.args.s [] 0 c.args.moment in
+    let next : t3.result.state.receive.next.0 ≡ (ticked_t2 c.args.moment (start c.args.s [])).state.receive.next.0 =
+    ap (λ (x : State). x.receive.next.0) two.state ∙ (next_t3 t2.result.state [] 0 c.args.moment c.args.s.timers.t3 ∙ ap (λ (x : State). x.receive.next.0) one.state) in
+    let high = (calm_t2 c.args.s [] _ c.args.moment c.requires.0).recv_high in
+    let room = c.requires.0.out_room in
+    let long-two = t3.auto.out in
+    let long-one = t2.auto.out in
+    (omega arith, omega arith)
+
+pub returns : goal.returns
+unfolding on_tick ticked
+returns c =
+    let a = c.args in
+    let passed = none (tick_refusal a.s a.times.now a.moment) c.tick_refusal-refused.ensures c.is_none.ensures c.if-not-is_none.false in
+    let g₂ = ticked_t2 a.moment (start a.s a.times.now) in
+    let one = c.tick_t2-confirmed.ensures a.times.now in
+    let two = makes_then (ticked_t3_appends a.s.timers.t3 a.moment) one one.state (c.tick_t3-tested.ensures g₂.times) in
+    λ ps. rw passed (answers_ending false false a.moment ps two two.state c.finish-ended.ensures c.accept.ensures)
