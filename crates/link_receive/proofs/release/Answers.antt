@@ -3,8 +3,6 @@ use Rattle.link_receive.proofs.Incoming.{open_freed}
 use borrow.Author.Rules.{rules}
 use Rattle.link_receive.proofs.release.Goals as goal
 
--- HELPER NEEDS WORK
-
 pub send_waiting-requires : goal.send_waiting-requires
 send_waiting-requires c =
     rw c.free-m.ensures (open_freed c.args.s _ _ _ _ c.requires.0 c.args.freed)
