@@ -3,8 +3,7 @@ use asdu::{Answer, checking};
 use bridge_records::{answers, records};
 
 // The record is written as far as `record` reaches, the one beside a refusal too.
-#[unsafe(no_mangle)]
-pub extern "C" fn gg_asdu_read(s: &[u8], record: &mut [u8]) -> u32 {
+pub fn gg_asdu_read(s: &[u8], record: &mut [u8]) -> u32 {
     let read = asdu_read::read_asdu(s);
     let asdu = read.asdu;
     let answer = read.answer;
@@ -12,24 +11,20 @@ pub extern "C" fn gg_asdu_read(s: &[u8], record: &mut [u8]) -> u32 {
     answers::number(answer)
 }
 
-#[unsafe(no_mangle)]
-pub extern "C" fn gg_asdu_check(s: &[u8]) -> u32 {
+pub fn gg_asdu_check(s: &[u8]) -> u32 {
     let refusal = checking::check_asdu(s);
     laws::wide(refusal.0)
 }
 
-#[unsafe(no_mangle)]
-pub extern "C" fn gg_asdu_plain(s: &[u8]) -> u32 {
+pub fn gg_asdu_plain(s: &[u8]) -> u32 {
     answers::plain_number(asdu_plain::plain_asdu(s))
 }
 
-#[unsafe(no_mangle)]
-pub extern "C" fn gg_asdu_write(record: &[u8], out: &mut [u8]) -> u32 {
+pub fn gg_asdu_write(record: &[u8], out: &mut [u8]) -> u32 {
     answers::length(asdu_write::write_asdu(records::record_in(record), out))
 }
 
-#[unsafe(no_mangle)]
-pub extern "C" fn gg_asdu_rewrite(s: &[u8], out: &mut [u8]) -> u32 {
+pub fn gg_asdu_rewrite(s: &[u8], out: &mut [u8]) -> u32 {
     let read = asdu_read::read_asdu(s);
     let asdu = read.asdu;
     let answer = read.answer;

@@ -1,7 +1,7 @@
-// The proved library for the programs that test it: host/ links these functions, and replay and drive_frames call them. An
-// element is the list of its fields (bridge_records, fields.rt). What may be refused is written to `out`, with the
-// number of the refusal as the result, 0 for none. A list that is too short reads as 0 and takes nothing past its
-// end, so no call can fail. Frames are in `bridge_frames`.
+// The proved library for the programs that test it: host/ links these functions as `bridge_c` hands them on to C, and replay
+// and drive_frames call them. An element is the list of its fields (bridge_records, fields.rt). What may be refused is
+// written to `out`, with the number of the refusal as the result, 0 for none. A list that is too short reads as 0 and takes
+// nothing past its end, so no call can fail. Frames are in `bridge_frames`.
 #![tactic(auto)]
 
 pub mod asdus;
@@ -23,59 +23,48 @@ fn put_answer(out: &mut [u8], answer: OctetAnswer) -> u8 {
     }
 }
 
-#[unsafe(no_mangle)]
-pub extern "C" fn gg_read_qds(octet: u8, out: &mut [u8]) {
+pub fn gg_read_qds(octet: u8, out: &mut [u8]) {
     fields::put_qds(out, 0, Qds::from_byte(octet));
 }
 
-#[unsafe(no_mangle)]
-pub extern "C" fn gg_write_qds(s: &[u8]) -> u8 {
+pub fn gg_write_qds(s: &[u8]) -> u8 {
     fields::qds_at(s, 0).to_byte()
 }
 
-#[unsafe(no_mangle)]
-pub extern "C" fn gg_read_siq(octet: u8, out: &mut [u8]) {
+pub fn gg_read_siq(octet: u8, out: &mut [u8]) {
     fields::put_siq(out, Siq::from_byte(octet));
 }
 
-#[unsafe(no_mangle)]
-pub extern "C" fn gg_write_siq(s: &[u8]) -> u8 {
+pub fn gg_write_siq(s: &[u8]) -> u8 {
     fields::siq_in(s).to_byte()
 }
 
-#[unsafe(no_mangle)]
-pub extern "C" fn gg_read_diq(octet: u8, out: &mut [u8]) {
+pub fn gg_read_diq(octet: u8, out: &mut [u8]) {
     fields::put_diq(out, Diq::from_byte(octet));
 }
 
-#[unsafe(no_mangle)]
-pub extern "C" fn gg_write_diq(s: &[u8]) -> u8 {
+pub fn gg_write_diq(s: &[u8]) -> u8 {
     fields::diq_in(s).to_byte()
 }
 
-#[unsafe(no_mangle)]
-pub extern "C" fn gg_read_seq_qd(octet: u8, out: &mut [u8]) {
+pub fn gg_read_seq_qd(octet: u8, out: &mut [u8]) {
     fields::put_seq_qd(out, 0, SeqQd::from_byte(octet));
 }
 
-#[unsafe(no_mangle)]
-pub extern "C" fn gg_write_seq_qd(s: &[u8], out: &mut [u8]) -> u8 {
+pub fn gg_write_seq_qd(s: &[u8], out: &mut [u8]) -> u8 {
     put_answer(out, fields::seq_qd_at(s, 0).to_byte())
 }
 
-#[unsafe(no_mangle)]
-pub extern "C" fn gg_read_coi(octet: u8, out: &mut [u8]) {
+pub fn gg_read_coi(octet: u8, out: &mut [u8]) {
     fields::put_coi(out, Coi::from_byte(octet));
 }
 
-#[unsafe(no_mangle)]
-pub extern "C" fn gg_write_coi(s: &[u8], out: &mut [u8]) -> u8 {
+pub fn gg_write_coi(s: &[u8], out: &mut [u8]) -> u8 {
     put_answer(out, fields::coi_in(s).to_byte())
 }
 
 // The value is the result; whether it is transient stands before the marks of the quality.
-#[unsafe(no_mangle)]
-pub extern "C" fn gg_read_vti(octets: &[u8], out: &mut [u8]) -> i8 {
+pub fn gg_read_vti(octets: &[u8], out: &mut [u8]) -> i8 {
     let vti = Vti::from_byte(laws::octet_at(octets, 0), laws::octet_at(octets, 1));
     let qds = vti.qds;
     laws::put_octet(out, 0, laws::bit(vti.transient));
@@ -83,8 +72,7 @@ pub extern "C" fn gg_read_vti(octets: &[u8], out: &mut [u8]) -> i8 {
     vti.value
 }
 
-#[unsafe(no_mangle)]
-pub extern "C" fn gg_write_vti(value: i8, s: &[u8], out: &mut [u8]) -> u8 {
+pub fn gg_write_vti(value: i8, s: &[u8], out: &mut [u8]) -> u8 {
     let qds = fields::qds_at(s, 1);
     match (Vti {
         value,
@@ -102,33 +90,27 @@ pub extern "C" fn gg_write_vti(value: i8, s: &[u8], out: &mut [u8]) -> u8 {
     }
 }
 
-#[unsafe(no_mangle)]
-pub extern "C" fn gg_read_i16(octets: &[u8]) -> i16 {
+pub fn gg_read_i16(octets: &[u8]) -> i16 {
     numbers::signed16(laws::le2(octets, 0))
 }
 
-#[unsafe(no_mangle)]
-pub extern "C" fn gg_write_i16(value: i16, out: &mut [u8]) {
+pub fn gg_write_i16(value: i16, out: &mut [u8]) {
     laws::put_le2(out, 0, numbers::bits16(value));
 }
 
-#[unsafe(no_mangle)]
-pub extern "C" fn gg_read_i32(octets: &[u8]) -> i32 {
+pub fn gg_read_i32(octets: &[u8]) -> i32 {
     numbers::signed32(laws::le4(octets, 0))
 }
 
-#[unsafe(no_mangle)]
-pub extern "C" fn gg_write_i32(value: i32, out: &mut [u8]) {
+pub fn gg_write_i32(value: i32, out: &mut [u8]) {
     laws::put_le4(out, 0, numbers::bits32(value));
 }
 
 // A bit string, and the bits of an f32.
-#[unsafe(no_mangle)]
-pub extern "C" fn gg_read_u32(octets: &[u8]) -> u32 {
+pub fn gg_read_u32(octets: &[u8]) -> u32 {
     laws::le4(octets, 0)
 }
 
-#[unsafe(no_mangle)]
-pub extern "C" fn gg_write_u32(value: u32, out: &mut [u8]) {
+pub fn gg_write_u32(value: u32, out: &mut [u8]) {
     laws::put_le4(out, 0, value);
 }

@@ -26,8 +26,7 @@ fn number(found: Found) -> u32 {
 }
 
 // The header is reading's; every object is the walk's, and a blank one where it finds none.
-#[unsafe(no_mangle)]
-pub extern "C" fn gg_asdu_walk(s: &[u8], record: &mut [u8]) -> u32 {
+pub fn gg_asdu_walk(s: &[u8], record: &mut [u8]) -> u32 {
     let mut asdu = asdu_read::read_record(s);
     let mut place = asdu_walk::start(s);
     let mut count: usize = 0;

@@ -10,8 +10,7 @@ use asdu::WriteAnswer;
 use bridge_records::{answers, records};
 
 // The fields are written as far as `fields` reaches, and not beside a refusal.
-#[unsafe(no_mangle)]
-pub extern "C" fn gg_frame_read(f: &[u8], fields: &mut [u8]) -> u32 {
+pub fn gg_frame_read(f: &[u8], fields: &mut [u8]) -> u32 {
     let answer = reading::read_frame(f);
     match answer {
         FrameAnswer::I(send, receive) => fields::put_i(fields, send, receive),
@@ -25,41 +24,30 @@ pub extern "C" fn gg_frame_read(f: &[u8], fields: &mut [u8]) -> u32 {
 }
 
 // How many octets the ASDU of the frame has. They are copied as far as `out` reaches.
-#[unsafe(no_mangle)]
-pub extern "C" fn gg_frame_asdu(f: &[u8], out: &mut [u8]) -> u32 {
+pub fn gg_frame_asdu(f: &[u8], out: &mut [u8]) -> u32 {
     let part = reading::asdu_of(f);
     laws::put_octets(out, 0, part);
     (part.len() % 0x10000) as u32
 }
 
-#[unsafe(no_mangle)]
-pub extern "C" fn gg_frame_plain(f: &[u8]) -> u32 {
+pub fn gg_frame_plain(f: &[u8]) -> u32 {
     answers::plain_number(reading::plain_frame(f))
 }
 
-#[unsafe(no_mangle)]
-pub extern "C" fn gg_frame_write_s(receive: u16, out: &mut [u8]) -> u32 {
+pub fn gg_frame_write_s(receive: u16, out: &mut [u8]) -> u32 {
     answers::length(writing::write_s(ReceiveNumber(receive), out))
 }
 
-#[unsafe(no_mangle)]
-pub extern "C" fn gg_frame_write_u(flags: &[u8], out: &mut [u8]) -> u32 {
+pub fn gg_frame_write_u(flags: &[u8], out: &mut [u8]) -> u32 {
     answers::length(writing::write_u(fields::u_in(flags), out))
 }
 
-#[unsafe(no_mangle)]
-pub extern "C" fn gg_frame_write_i(send: u16, receive: u16, record: &[u8], out: &mut [u8]) -> u32 {
+pub fn gg_frame_write_i(send: u16, receive: u16, record: &[u8], out: &mut [u8]) -> u32 {
     let asdu = records::record_in(record);
     answers::length(writing::write_i(SendNumber(send), ReceiveNumber(receive), asdu, out))
 }
 
-#[unsafe(no_mangle)]
-pub extern "C" fn gg_frame_write_i_octets(
-    send: u16,
-    receive: u16,
-    asdu: &[u8],
-    out: &mut [u8],
-) -> u32 {
+pub fn gg_frame_write_i_octets(send: u16, receive: u16, asdu: &[u8], out: &mut [u8]) -> u32 {
     answers::length(writing::write_i_octets(SendNumber(send), ReceiveNumber(receive), asdu, out))
 }
 
@@ -75,8 +63,7 @@ fn write_i_again(
     writing::write_i(send, receive, asdu, out)
 }
 
-#[unsafe(no_mangle)]
-pub extern "C" fn gg_frame_rewrite(f: &[u8], out: &mut [u8]) -> u32 {
+pub fn gg_frame_rewrite(f: &[u8], out: &mut [u8]) -> u32 {
     let answer = reading::read_frame(f);
     match answer {
         FrameAnswer::I(send, receive) => answers::length(write_i_again(f, send, receive, out)),

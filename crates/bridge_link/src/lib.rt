@@ -6,8 +6,7 @@ use bridge_cells::{called, cells};
 use link_state::opening;
 
 // With the settings that the list has.
-#[unsafe(no_mangle)]
-pub extern "C" fn gg_link_open(list: &mut [u64], moment: u64) -> u32 {
+pub fn gg_link_open(list: &mut [u64], moment: u64) -> u32 {
     let opened = opening::open(cells::settings_in(list), moment);
     let link = opened.link;
     let answer = opened.answer;
@@ -16,8 +15,7 @@ pub extern "C" fn gg_link_open(list: &mut [u64], moment: u64) -> u32 {
     laws::wide(answer.refusal().0)
 }
 
-#[unsafe(no_mangle)]
-pub extern "C" fn gg_link_receive(
+pub fn gg_link_receive(
     list: &mut [u64],
     pool: &[u8],
     out: &mut [u8],
@@ -31,8 +29,7 @@ pub extern "C" fn gg_link_receive(
     )
 }
 
-#[unsafe(no_mangle)]
-pub extern "C" fn gg_link_send(
+pub fn gg_link_send(
     list: &mut [u64],
     pool: &mut [u8],
     out: &mut [u8],
@@ -45,24 +42,21 @@ pub extern "C" fn gg_link_send(
     )
 }
 
-#[unsafe(no_mangle)]
-pub extern "C" fn gg_link_stop(list: &mut [u64], pool: &[u8], out: &mut [u8], moment: u64) -> u32 {
+pub fn gg_link_stop(list: &mut [u64], pool: &[u8], out: &mut [u8], moment: u64) -> u32 {
     called::put_called(
         list,
         link_time::stop(cells::link_in(list), pool, out, moment),
     )
 }
 
-#[unsafe(no_mangle)]
-pub extern "C" fn gg_link_test(list: &mut [u64], pool: &[u8], out: &mut [u8], moment: u64) -> u32 {
+pub fn gg_link_test(list: &mut [u64], pool: &[u8], out: &mut [u8], moment: u64) -> u32 {
     called::put_called(
         list,
         link_time::test(cells::link_in(list), pool, out, moment),
     )
 }
 
-#[unsafe(no_mangle)]
-pub extern "C" fn gg_link_tick(list: &mut [u64], pool: &[u8], out: &mut [u8], moment: u64) -> u32 {
+pub fn gg_link_tick(list: &mut [u64], pool: &[u8], out: &mut [u8], moment: u64) -> u32 {
     called::put_called(
         list,
         link_time::tick(cells::link_in(list), pool, out, moment),

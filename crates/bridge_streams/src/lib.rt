@@ -21,8 +21,7 @@ fn told(what: u8, moved: usize, size: usize) -> u32 {
 }
 
 // Moved bytes are told as where more is needed.
-#[unsafe(no_mangle)]
-pub extern "C" fn gg_stream_top_up(carry: &mut [u8], held: usize, chunk: &[u8]) -> u32 {
+pub fn gg_stream_top_up(carry: &mut [u8], held: usize, chunk: &[u8]) -> u32 {
     let answer = topping::top_up(carry, held, chunk);
     match answer {
         TopUpAnswer::Moved(moved) => told(MORE, moved, 0),
@@ -30,8 +29,7 @@ pub extern "C" fn gg_stream_top_up(carry: &mut [u8], held: usize, chunk: &[u8]) 
     }
 }
 
-#[unsafe(no_mangle)]
-pub extern "C" fn gg_stream_which(carry: &[u8], held: usize, chunk: &[u8]) -> u32 {
+pub fn gg_stream_which(carry: &[u8], held: usize, chunk: &[u8]) -> u32 {
     let answer = picking::which(carry, held, chunk);
     match answer {
         PickAnswer::Carry(size) => told(CARRY, 0, size),
@@ -49,18 +47,11 @@ fn octet_in(part: &[u8], place: usize) -> u32 {
 }
 
 // The octet at a place of the part that is picked.
-#[unsafe(no_mangle)]
-pub extern "C" fn gg_stream_pick<'a>(
-    carry: &'a [u8],
-    held: usize,
-    chunk: &'a [u8],
-    place: usize,
-) -> u32 {
+pub fn gg_stream_pick<'a>(carry: &'a [u8], held: usize, chunk: &'a [u8], place: usize) -> u32 {
     octet_in(picking::pick(carry, held, chunk), place)
 }
 
-#[unsafe(no_mangle)]
-pub extern "C" fn gg_stream_step(carry: &mut [u8], held: usize, chunk: &[u8]) -> u32 {
+pub fn gg_stream_step(carry: &mut [u8], held: usize, chunk: &[u8]) -> u32 {
     let answer = stepping::step(carry, held, chunk);
     match answer {
         StepAnswer::Chunk(size) => told(CHUNK, 0, size),
