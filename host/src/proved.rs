@@ -1,4 +1,4 @@
-//! The proved library's answers, through the exported functions of crates/bridge; fields as in `judge`.
+//! The proved library's answers, through the exported functions of crates/bridge_c; fields as in `judge`.
 
 /// The exported functions. A slice goes over as its address and its length.
 mod exported {

@@ -1,4 +1,4 @@
-//! What the proved library says of a frame, through the exported functions of crates/bridge and crates/bridge_frames.
+//! What the proved library says of a frame, through the exported functions of crates/bridge_c and crates/bridge_frames_c.
 //! Nothing else here looks into a frame's octets.
 use crate::record::{HEADER_SIZE, MAX_OBJECTS, OBJECT_SIZE, Record};
 

@@ -1,4 +1,4 @@
-//! The proved library's answers about ASDUs, through the exported functions of crates/bridge. Each call is seen to
+//! The proved library's answers about ASDUs, through the exported functions of crates/bridge_c. Each call is seen to
 //! change only what it says: the rest of an output stays as it was.
 use std::fmt::Debug;
 

@@ -1,4 +1,4 @@
-//! The proved library's answers about frames, through the exported functions of crates/bridge_frames. Each call is
+//! The proved library's answers about frames, through the exported functions of crates/bridge_frames_c. Each call is
 //! seen to change only what it says.
 use super::{
     answers::{Answers, FIELDS_SIZE, Flags, Frame},

@@ -1,4 +1,4 @@
-//! The proved library's link, through the exported functions of crates/bridge_link. Each call is seen to change only what
+//! The proved library's link, through the exported functions of crates/bridge_link_c. Each call is seen to change only what
 //! it says.
 use std::fmt;
 

@@ -1,4 +1,4 @@
-//! The proved library's answers in assembling, through the exported functions of crates/bridge_streams. Each call is seen
+//! The proved library's answers in assembling, through the exported functions of crates/bridge_streams_c. Each call is seen
 //! to change only what it says.
 use super::answers::{Fed, Picked, Stepped};
 use crate::{
