@@ -3,7 +3,6 @@ use Rattle.std.specs.Prelude.{ℕ, ◌%◌, List, get_or, drop, eqb}
 use Rattle.laws.specs.Choice.{pick}
 use Rattle.asdu.specs.Plain.{plain_answer}
 use Rattle.asdu.specs.declared.PlainAnswer.{PlainAnswer}
-use Rattle.asdu.specs.declared.PlainAnswer.TheVariants as PlainAnswer
 use Rattle.apdu.specs.Reading.{frame_answer}
 use Rattle.apdu.specs.declared.frame.FrameAnswer.{FrameAnswer}
 use Rattle.apdu.specs.declared.frame.FrameAnswer.TheVariants.{I, S, U, Refused}

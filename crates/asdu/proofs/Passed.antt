@@ -17,7 +17,6 @@ use Rattle.asdu.specs.Reading.{refusal_by, read_refusal}
 use Rattle.asdu.specs.Plain.{plain_by, plain_answer}
 use Rattle.asdu.specs.declared.header.HeaderAnswer.TheVariants as HeaderAnswer
 use Rattle.asdu.specs.declared.PlainAnswer.{PlainAnswer}
-use Rattle.asdu.specs.declared.PlainAnswer.TheVariants as PlainAnswer
 
 -- ---- reading
 

@@ -17,7 +17,6 @@ use Rattle.objects.specs.declared.kinds.KindAnswer.TheVariants.{Carried, NotCarr
 use Rattle.asdu.specs.Header.{early_refusal, layout_refusal, header_refusal_by, header_refusal, header_in, header_by, header_answer, sequence_in, count_in}
 use Rattle.asdu.specs.declared.header.Header.{Header}
 use Rattle.asdu.specs.declared.header.HeaderAnswer.{HeaderAnswer}
-use Rattle.asdu.specs.declared.header.HeaderAnswer.TheVariants as HeaderAnswer
 
 -- a step times a count of one octet
 pub product_small : (n e : ℕ) → n ≤ 255 → e ≤ 8 → n * e ≤ 2040

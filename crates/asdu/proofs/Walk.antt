@@ -18,7 +18,6 @@ use Rattle.elements.specs.Refusals.{refusal, wrong_address}
 use Rattle.objects.specs.Objects.{blank, object_of, object_answer, object_number}
 use Rattle.objects.specs.declared.Object.{Object}
 use Rattle.objects.specs.declared.ObjectAnswer.{ObjectAnswer}
-use Rattle.objects.specs.declared.ObjectAnswer.TheVariants as ObjectAnswer
 use Rattle.objects.specs.declared.values.Value.{Value}
 use Rattle.asdu.specs.Header.{step_of}
 use Rattle.asdu.specs.Records.{blanks, filled}

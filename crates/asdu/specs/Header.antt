@@ -12,7 +12,6 @@ use Rattle.objects.specs.declared.kinds.KindAnswer.{KindAnswer}
 use Rattle.objects.specs.declared.kinds.KindAnswer.TheVariants.{Carried, NotCarried}
 use Rattle.asdu.specs.declared.header.Header.{Header}
 use Rattle.asdu.specs.declared.header.HeaderAnswer.{HeaderAnswer}
-use Rattle.asdu.specs.declared.header.HeaderAnswer.TheVariants as HeaderAnswer
 
 -- the octet of sequence and count, and that of test, negative and cause; neither has a reserved bit
 abbrev pub count_layout : Layout

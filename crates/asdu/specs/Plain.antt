@@ -10,9 +10,7 @@ use Rattle.asdu.specs.Header.{step_of, header_answer}
 use Rattle.asdu.specs.Reading.{read_refusal}
 use Rattle.asdu.specs.declared.header.Header.{Header}
 use Rattle.asdu.specs.declared.header.HeaderAnswer.{HeaderAnswer}
-use Rattle.asdu.specs.declared.header.HeaderAnswer.TheVariants as HeaderAnswer
 use Rattle.asdu.specs.declared.PlainAnswer.{PlainAnswer}
-use Rattle.asdu.specs.declared.PlainAnswer.TheVariants as PlainAnswer
 
 -- no reserved bit in the octets of this form that begin a list
 abbrev pub plain_form : List Layout → List ℕ → Bool

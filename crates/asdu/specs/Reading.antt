@@ -13,7 +13,6 @@ use Rattle.asdu.specs.Header.{step_of, header_answer}
 use Rattle.asdu.specs.Records.{filled, asdu_of, refused_with}
 use Rattle.asdu.specs.declared.header.Header.{Header}
 use Rattle.asdu.specs.declared.header.HeaderAnswer.{HeaderAnswer}
-use Rattle.asdu.specs.declared.header.HeaderAnswer.TheVariants as HeaderAnswer
 use Rattle.asdu.specs.declared.Answer.TheVariants as Answer
 use Rattle.asdu.specs.declared.ReadAsdu.{ReadAsdu}
 

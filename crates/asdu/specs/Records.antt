@@ -8,7 +8,6 @@ use Rattle.objects.specs.declared.Object.{Object}
 use Rattle.asdu.specs.declared.header.Header.{Header}
 use Rattle.asdu.specs.declared.Asdu.{Asdu}
 use Rattle.asdu.specs.declared.Answer.{Answer}
-use Rattle.asdu.specs.declared.Answer.TheVariants as Answer
 use Rattle.asdu.specs.declared.ReadAsdu.{ReadAsdu}
 
 -- 127 objects: the given ones, the rest blank

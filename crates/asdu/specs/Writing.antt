@@ -15,7 +15,6 @@ use Rattle.objects.specs.declared.Object.{Object}
 use Rattle.asdu.specs.Header.{count_layout, cause_layout, cause_listed, needed}
 use Rattle.asdu.specs.declared.Asdu.{Asdu}
 use Rattle.asdu.specs.declared.WriteAnswer.{WriteAnswer}
-use Rattle.asdu.specs.declared.WriteAnswer.TheVariants as WriteAnswer
 
 -- the record's own objects, and the first one's address
 abbrev pub own_objects : Asdu → List Object

@@ -13,7 +13,6 @@ use Rattle.asdu.specs.Plain.{plain_objects, plain_answer}
 use Rattle.asdu.specs.declared.PlainAnswer.TheVariants as PlainAnswer
 use Rattle.asdu.specs.declared.header.Header.{Header}
 use Rattle.asdu.specs.declared.header.HeaderAnswer.{HeaderAnswer}
-use Rattle.asdu.specs.declared.header.HeaderAnswer.TheVariants as HeaderAnswer
 use Rattle.asdu.proofs.Starts.{refused_some}
 
 module _ (s : List ℕ) where

@@ -20,16 +20,13 @@ use Rattle.objects.specs.declared.kinds.Kind.{Kind}
 use Rattle.objects.specs.declared.Object.{Object}
 use Rattle.objects.specs.declared.values.Value.{Value}
 use Rattle.objects.specs.declared.ObjectAnswer.{ObjectAnswer}
-use Rattle.objects.specs.declared.ObjectAnswer.TheVariants as ObjectAnswer
 use Rattle.asdu.specs.Header.{step_of, header_answer}
 use Rattle.asdu.specs.Records.{asdu_of, filled, no_asdu}
 use Rattle.asdu.specs.Reading.{object_in, object_at, answer_at, first_number, objects_refusal, objects_in, read_refusal, refusal_by, read_body, read_by, read_asdu}
 use Rattle.asdu.specs.declared.Asdu.{Asdu}
 use Rattle.asdu.specs.declared.Answer.{Answer}
-use Rattle.asdu.specs.declared.Answer.TheVariants as Answer
 use Rattle.asdu.specs.declared.header.Header.{Header}
 use Rattle.asdu.specs.declared.header.HeaderAnswer.{HeaderAnswer}
-use Rattle.asdu.specs.declared.header.HeaderAnswer.TheVariants as HeaderAnswer
 use Rattle.asdu.proofs.Starts.{refused_some}
 use Rattle.asdu.proofs.Walk.{first_pass, first_stop}
 

@@ -16,7 +16,6 @@ use Rattle.objects.specs.Objects.{object_of}
 use Rattle.objects.specs.declared.kinds.Kind.{Kind}
 use Rattle.objects.specs.declared.kinds.KindAnswer.{KindAnswer}
 use Rattle.objects.specs.declared.kinds.KindAnswer.TheVariants.{Carried}
-use Rattle.objects.specs.declared.Object.{Object}
 use Rattle.asdu.specs.Header.{step_of}
 use Rattle.asdu.specs.Reading.{object_in}
 use Rattle.asdu_walk.specs.Places.{found_by, found_at}

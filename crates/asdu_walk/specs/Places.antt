@@ -9,7 +9,6 @@ use Rattle.asdu.specs.Header.{sequence_in, count_in}
 use Rattle.asdu.specs.Reading.{object_in, read_refusal}
 use Rattle.asdu_walk.specs.declared.Place.{Place}
 use Rattle.asdu_walk.specs.declared.Found.{Found}
-use Rattle.asdu_walk.specs.declared.Found.TheVariants as Found
 
 -- before the first object, with the reading's refusal
 unfoldable pub start_of : List ℕ → Place

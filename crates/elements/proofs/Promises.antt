@@ -27,14 +27,11 @@ use Rattle.elements.specs.declared.refusals.PairAnswer.TheVariants as Pair
 use Rattle.elements.specs.declared.quality_descriptors.Qds.{Qds}
 use Rattle.elements.specs.declared.quality_descriptors.SeqQd.{SeqQd}
 use Rattle.elements.specs.declared.information_elements.Spi.{Spi}
-use Rattle.elements.specs.declared.information_elements.Spi.TheVariants as Spi
 use Rattle.elements.specs.declared.information_elements.Siq.{Siq}
 use Rattle.elements.specs.declared.information_elements.Dpi.{Dpi}
-use Rattle.elements.specs.declared.information_elements.Dpi.TheVariants as Dpi
 use Rattle.elements.specs.declared.information_elements.Diq.{Diq}
 use Rattle.elements.specs.declared.information_elements.Vti.{Vti}
 use Rattle.elements.specs.declared.information_elements.Coi.{Coi}
-use Rattle.elements.specs.declared.information_elements.Coi.TheVariants as Coi
 
 bitwise : (l : Layout) (mask : ℕ) → T (apart 0 l 8) → kept l 255 ≡ mask → Bitwise l mask
 bitwise l mask o m = record { lies = o; masked = m; keeping = λ b i. writes_again 8 l b i o; reserving = λ b i. reserves 8 l b i o }

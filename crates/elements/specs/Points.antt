@@ -3,10 +3,8 @@ use Rattle.std.specs.Prelude.{ℕ, [], ◌∷◌, eqb}
 use Rattle.laws.specs.Bits.{field, flag, num, Layout, ◌at◌, octet}
 use Rattle.laws.specs.Choice.{pick}
 use Rattle.elements.specs.declared.information_elements.Spi.{Spi}
-use Rattle.elements.specs.declared.information_elements.Spi.TheVariants as Spi
 use Rattle.elements.specs.declared.information_elements.Siq.{Siq}
 use Rattle.elements.specs.declared.information_elements.Dpi.{Dpi}
-use Rattle.elements.specs.declared.information_elements.Dpi.TheVariants as Dpi
 use Rattle.elements.specs.declared.information_elements.Diq.{Diq}
 
 -- single point: 0 off, else on

@@ -2,9 +2,7 @@
 use Rattle.std.specs.Prelude.{ℕ}
 use Rattle.elements.specs.declared.refusals.Refusal.{Refusal}
 use Rattle.elements.specs.declared.refusals.OctetAnswer.{OctetAnswer}
-use Rattle.elements.specs.declared.refusals.OctetAnswer.TheVariants as OctetAnswer
 use Rattle.elements.specs.declared.refusals.PairAnswer.{PairAnswer}
-use Rattle.elements.specs.declared.refusals.PairAnswer.TheVariants as PairAnswer
 
 -- the code's refusal with this number
 abbrev pub refusal : ℕ → Refusal

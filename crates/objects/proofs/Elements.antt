@@ -20,7 +20,6 @@ use Rattle.objects.specs.Kinds.{size_of, form_of, value_kind}
 use Rattle.objects.specs.Elements.{element_of, element_octets, value_refusal}
 use Rattle.objects.specs.Promises.{Typed, kept_by, ElementLevel}
 use Rattle.objects.specs.declared.kinds.Kind.{Kind}
-use Rattle.objects.specs.declared.kinds.Kind.TheVariants as Kind
 use Rattle.objects.specs.declared.values.Value.{Value}
 use Rattle.objects.specs.declared.values.Value.TheVariants.{MSpNa1, MDpNa1, MStNa1, MBoNa1, MMeNa1, MMeNb1, MMeNc1, MItNa1, MMeNd1, MEiNa1, CIcNa1, CCiNa1, CRdNa1}
 

@@ -9,7 +9,6 @@ use borrow.Author.Tests.{eqb-true}
 use Rattle.laws.specs.Choice.{pick}
 use Rattle.objects.specs.Kinds.{type_of, kind_of, kinds, among}
 use Rattle.objects.specs.declared.kinds.Kind.{Kind}
-use Rattle.objects.specs.declared.kinds.Kind.TheVariants as Kind
 use Rattle.objects.specs.declared.kinds.KindAnswer.TheVariants.{Carried}
 
 pub kind_type : (k : Kind) → kind_of (type_of k) ≡ Carried k

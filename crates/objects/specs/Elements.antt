@@ -7,7 +7,6 @@ use Rattle.elements.specs.Points.{siq_of, siq_octet, diq_of, diq_octet}
 use Rattle.elements.specs.Steps.{vti_of, vti_answer}
 use Rattle.elements.specs.Causes.{coi_of, coi_answer}
 use Rattle.objects.specs.declared.kinds.Kind.{Kind}
-use Rattle.objects.specs.declared.kinds.Kind.TheVariants as Kind
 use Rattle.objects.specs.declared.values.Value.{Value}
 use Rattle.objects.specs.declared.values.Value.TheVariants.{MSpNa1, MDpNa1, MStNa1, MBoNa1, MMeNa1, MMeNb1, MMeNc1, MItNa1, MMeNd1, MEiNa1, CIcNa1, CCiNa1, CRdNa1}
 

@@ -11,7 +11,6 @@ use Rattle.objects.specs.declared.kinds.Kind.TheVariants.{MSpNa1, MDpNa1, MStNa1
 use Rattle.objects.specs.declared.kinds.KindAnswer.{KindAnswer}
 use Rattle.objects.specs.declared.kinds.KindAnswer.TheVariants.{Carried, NotCarried}
 use Rattle.objects.specs.declared.values.Value.{Value}
-use Rattle.objects.specs.declared.values.Value.TheVariants as Value
 
 -- the type's number
 abbrev pub type_of : Kind → ℕ

@@ -8,10 +8,8 @@ use Rattle.objects.specs.Kinds.{type_of, value_kind}
 use Rattle.objects.specs.Elements.{element_of, element_octets, value_refusal}
 use Rattle.objects.specs.declared.kinds.Kind.{Kind}
 use Rattle.objects.specs.declared.values.Value.{Value}
-use Rattle.objects.specs.declared.values.Value.TheVariants as Value
 use Rattle.objects.specs.declared.Object.{Object}
 use Rattle.objects.specs.declared.ObjectAnswer.{ObjectAnswer}
-use Rattle.objects.specs.declared.ObjectAnswer.TheVariants as ObjectAnswer
 
 -- address 0 and a clear SIQ: what stands past the count
 abbrev pub blank : Object

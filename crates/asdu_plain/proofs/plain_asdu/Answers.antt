@@ -1,6 +1,5 @@
 use mathlib.Core.Path.{sym, ap, ◌∙◌}
 use mathlib.Core.Bool.{true, false}
-use borrow.Author.Rules.{rules}
 use Rattle.elements.specs.Refusals.{refusal}
 use Rattle.asdu.specs.Header.{header_number}
 use Rattle.asdu.specs.Reading.{objects_refusal}

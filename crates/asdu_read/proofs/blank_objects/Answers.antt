@@ -1,4 +1,3 @@
-use borrow.Author.Rules.{rules}
 use Rattle.laws.specs.Lists.{padded}
 use Rattle.asdu.specs.Records.{blanks}
 use Rattle.asdu_read.proofs.blank_objects.Goals as goal

@@ -1,9 +1,5 @@
-use Prim.Native.Nat.{◌*◌, ◌≤◌}
 use mathlib.Core.Path.{◌∙◌}
-use native.Mathlib.Omega.{arith}
-use borrow.Author.Rules.{rules}
 use Rattle.asdu.specs.Reading.{answer_at}
-use Rattle.asdu.proofs.Starts.{product_small}
 use Rattle.asdu_read.proofs.Turns.{placed}
 use Rattle.asdu_read.proofs.object_answer.Goals as goal
 

@@ -1,7 +1,6 @@
 use Prim.Native.Nat.{ℕ}
 use mathlib.Core.Path.{ap}
 use mathlib.Core.Bool.{true, false}
-use borrow.Author.Rules.{rules}
 use lib.Dec.{eqb}
 use Rattle.elements.proofs.Refused.{none, some}
 use Rattle.asdu.specs.Reading.{read_refusal}

@@ -1,15 +1,14 @@
-use Prim.Native.Nat.{◌+◌, ◌-◌, ◌≤◌}
-use mathlib.Core.Path.{◌≡◌, sym, ap, ◌∙◌}
+use Prim.Native.Nat.{◌+◌, ◌-◌}
+use mathlib.Core.Path.{sym, ap, ◌∙◌}
 use mathlib.Core.List.{List}
 use native.Mathlib.Omega.{arith}
 use native.Mathlib.Nat.{sub-zero}
 use lib.ListN.{set}
 use lib.Seq.{sets}
-use borrow.Author.Rules.{rules}
 use Rattle.laws.specs.Lists.{tabulate}
 use Rattle.objects.specs.declared.Object.{Object}
-use Rattle.asdu.specs.Records.{asdu_of, filled}
-use Rattle.asdu.specs.Reading.{object_at, first_number, objects_refusal, objects_in, read_by, read_asdu}
+use Rattle.asdu.specs.Records.{asdu_of}
+use Rattle.asdu.specs.Reading.{object_at, objects_refusal, read_by, read_asdu}
 use Rattle.asdu.specs.declared.Asdu.{Asdu}
 use Rattle.asdu.specs.declared.header.HeaderAnswer.{HeaderAnswer}
 use Rattle.asdu.proofs.Starts.{count_fits}

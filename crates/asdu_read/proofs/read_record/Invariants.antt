@@ -1,20 +1,10 @@
-use Prim.Native.Nat.{◌+◌, ◌-◌, ◌≤◌}
-use mathlib.Core.Path.{◌≡◌, sym, ap, ◌∙◌}
-use mathlib.Core.List.{List}
-use native.Mathlib.Omega.{arith}
-use native.Mathlib.Nat.{sub-zero}
-use lib.ListN.{set}
+use Prim.Native.Nat.{◌-◌, ◌≤◌}
+use mathlib.Core.Path.{◌≡◌}
 use lib.Seq.{sets}
-use borrow.Author.Rules.{rules}
 use Rattle.laws.specs.Lists.{tabulate}
-use Rattle.objects.specs.declared.Object.{Object}
 use Rattle.asdu.specs.Records.{asdu_of, filled}
-use Rattle.asdu.specs.Reading.{object_at, first_number, objects_refusal, objects_in, read_by, read_asdu}
-use Rattle.asdu.specs.declared.Asdu.{Asdu}
-use Rattle.asdu.specs.declared.header.HeaderAnswer.{HeaderAnswer}
-use Rattle.asdu.proofs.Starts.{count_fits}
-use Rattle.asdu.proofs.Walk.{object_read, filled_from, first_end}
-use Rattle.asdu_read.proofs.Turns.{number_at, fill_next, fill_end, pass, stop, left, done}
+use Rattle.asdu.specs.Reading.{object_at, first_number, objects_refusal, objects_in}
+use Rattle.asdu_read.proofs.Turns.{number_at}
 use Rattle.asdu_read.proofs.read_record.Given as goal
 
 abbrev pub invariant-loop-i : goal.invariant-loop-i

@@ -1,5 +1,4 @@
 use mathlib.Core.Path.{refl, sym, ap, ◌∙◌}
-use borrow.Author.Rules.{rules}
 use Rattle.elements.proofs.Refused.{none, some}
 use Rattle.objects.specs.Kinds.{kind_of}
 use Rattle.asdu_walk.specs.declared.Found.TheVariants as Found

@@ -1,7 +1,3 @@
-use Prim.Native.Nat.{◌*◌, ◌≤◌}
-use native.Mathlib.Omega.{arith}
-use borrow.Author.Rules.{rules}
-use Rattle.asdu.proofs.Starts.{product_small}
 use Rattle.asdu_walk.proofs.Placed.{placed}
 use Rattle.asdu_walk.proofs.object_in.Goals as goal
 

@@ -1,4 +1,3 @@
-use borrow.Author.Rules.{rules}
 use Rattle.asdu_walk.specs.Places.{start_of}
 use Rattle.asdu_walk.proofs.start.Goals as goal
 

@@ -1,7 +1,6 @@
-use mathlib.Core.Path.{◌≡◌, sym, ap, ◌∙◌}
-use borrow.Author.Rules.{rules}
+use mathlib.Core.Path.{sym, ap, ◌∙◌}
 use Rattle.elements.specs.Refusals.{refusal}
-use Rattle.objects.specs.Kinds.{type_of, value_kind}
+use Rattle.objects.specs.Kinds.{type_of}
 use Rattle.asdu_write.proofs.Rows.{alone_kind, alone_address, alone_value}
 use Rattle.asdu_write.proofs.first_refusal.Goals as goal
 

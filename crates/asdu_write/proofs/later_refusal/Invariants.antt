@@ -1,11 +1,7 @@
 use Prim.Native.Nat.{◌-◌}
-use mathlib.Core.Path.{◌≡◌, refl, sym, ap, ◌∙◌}
-use native.Mathlib.Omega.{arith}
-use borrow.Author.Rules.{rules}
-use lib.ListN.{take, drop, length, length-map}
-use Rattle.elements.specs.Refusals.{refusal}
+use mathlib.Core.Path.{◌≡◌}
+use lib.ListN.{take, drop}
 use Rattle.asdu.specs.Writing.{first_refusal}
-use Rattle.asdu_write.proofs.Rows.{refusal_here, refusal_after, refusal_end}
 use Rattle.asdu_write.proofs.later_refusal.Given as goal
 
 abbrev pub invariant-loop-i : goal.invariant-loop-i

@@ -1,7 +1,6 @@
 use mathlib.Core.Path.{◌≡◌, sym, ap, ◌∙◌}
 use native.Mathlib.Omega.{arith}
-use borrow.Author.Rules.{rules}
-use lib.ListN.{length, get_or, length-map}
+use lib.ListN.{length, get_or}
 use Rattle.elements.specs.Refusals.{refusal}
 use Rattle.objects.specs.Objects.{blank}
 use Rattle.asdu.specs.Writing.{first_address}

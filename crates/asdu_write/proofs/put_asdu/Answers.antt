@@ -1,6 +1,5 @@
 use mathlib.Core.Path.{◌∙◌}
 use native.Mathlib.Omega.{arith}
-use borrow.Author.Rules.{rules}
 use Rattle.asdu.specs.Writing.{asdu_octets}
 use Rattle.asdu_write.proofs.Places.{put_then, put_long, header_put, bodies_room}
 use Rattle.asdu_write.proofs.put_asdu.Goals as goal

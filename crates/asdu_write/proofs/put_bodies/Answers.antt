@@ -1,7 +1,6 @@
-use mathlib.Core.Path.{◌≡◌, sym, ap, ◌∙◌}
+use mathlib.Core.Path.{◌≡◌, ap}
 use native.Mathlib.Omega.{arith}
-use borrow.Author.Rules.{rules}
-use lib.ListN.{length, take, drop, get_or, length-map, length-append}
+use lib.ListN.{length, take, drop, get_or, length-append}
 use Rattle.objects.specs.Objects.{blank}
 use Rattle.asdu.specs.Writing.{body_octets, objects_octets}
 use Rattle.asdu_write.proofs.Places.{put_none, put_then, put_long}

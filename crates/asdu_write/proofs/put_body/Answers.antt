@@ -1,6 +1,5 @@
 use mathlib.Core.Path.{ap, ◌∙◌}
 use native.Mathlib.Omega.{arith}
-use borrow.Author.Rules.{rules}
 use Rattle.laws.proofs.Lists.{rest_sets}
 use Rattle.objects.specs.Kinds.{size_of}
 use Rattle.objects.specs.Elements.{element_octets}

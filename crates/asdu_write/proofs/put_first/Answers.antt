@@ -1,5 +1,4 @@
 use mathlib.Core.Path.{refl}
-use borrow.Author.Rules.{rules}
 use Rattle.asdu_write.proofs.Places.{address_put, address_sequence, address_plain}
 use Rattle.asdu_write.proofs.put_first.Goals as goal
 

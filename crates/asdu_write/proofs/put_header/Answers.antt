@@ -1,5 +1,4 @@
 use native.Mathlib.Omega.{arith}
-use borrow.Author.Rules.{rules}
 use Rattle.asdu_write.proofs.Places.{header_stored}
 use Rattle.asdu_write.proofs.put_header.Goals as goal
 

@@ -1,8 +1,7 @@
-use Prim.Native.Nat.{◌+◌, ◌-◌}
-use mathlib.Core.Path.{◌≡◌, refl, sym, ap, ◌∙◌}
+use Prim.Native.Nat.{◌+◌}
+use mathlib.Core.Path.{◌≡◌, refl, ap, ◌∙◌}
 use native.Mathlib.Omega.{arith}
-use lib.ListN.{length, take, drop, length-map, get_or, length-append}
-use lib.Seq.{sets}
+use lib.ListN.{length, take, drop, get_or, length-append}
 use Rattle.laws.proofs.Lists.{sets_append}
 use Rattle.objects.specs.Objects.{blank}
 use Rattle.asdu.specs.Writing.{body_octets, objects_octets}

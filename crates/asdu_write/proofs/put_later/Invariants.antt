@@ -1,13 +1,8 @@
 use Prim.Native.Nat.{◌+◌, ◌-◌}
-use mathlib.Core.Path.{◌≡◌, refl, sym, ap, ◌∙◌}
-use native.Mathlib.Omega.{arith}
-use lib.ListN.{length, take, drop, length-map, get_or, length-append}
+use mathlib.Core.Path.{◌≡◌}
+use lib.ListN.{length, take, drop}
 use lib.Seq.{sets}
-use Rattle.laws.proofs.Lists.{sets_append}
-use Rattle.objects.specs.Objects.{blank}
-use Rattle.asdu.specs.Writing.{body_octets, objects_octets}
-use Rattle.asdu_write.proofs.Places.{put_long}
-use Rattle.asdu_write.proofs.Rows.{octets_more, octets_end}
+use Rattle.asdu.specs.Writing.{objects_octets}
 use Rattle.asdu_write.proofs.put_later.Given as goal
 
 abbrev pub invariant-loop-i : goal.invariant-loop-i

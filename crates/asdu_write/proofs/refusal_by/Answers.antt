@@ -1,7 +1,6 @@
 use Prim.Native.Nat.{ℕ}
 use mathlib.Core.Path.{ap, ◌∙◌}
 use native.Mathlib.Omega.{arith}
-use borrow.Author.Rules.{rules}
 use Rattle.elements.specs.Refusals.{refusal}
 use Rattle.elements.proofs.Refused.{none, stops, goes}
 use Rattle.asdu.specs.Writing.{size_refusal, write_refusal_by}

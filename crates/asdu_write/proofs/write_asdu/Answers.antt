@@ -1,8 +1,7 @@
-use mathlib.Core.Path.{◌≡◌, sym, ap, ◌∙◌}
+use mathlib.Core.Path.{◌≡◌, ap, ◌∙◌}
 use native.Mathlib.Omega.{arith}
-use borrow.Author.Rules.{rules}
 use borrow.Author.Tests.{eq-eqb}
-use lib.ListN.{length, length-map}
+use lib.ListN.{length}
 use Rattle.laws.proofs.Lists.{sets_all}
 use Rattle.asdu.specs.Writing.{write_refusal, asdu_octets, write_answer, written}
 use Rattle.asdu.specs.declared.WriteAnswer.TheVariants as WriteAnswer
@@ -15,7 +14,6 @@ unfolding write_answer written
 returns-then-not-is_none c =
     let is = c.write_refusal-r.ensures in
     let e = some _ is c.is_none.ensures c.if-not-is_none.true in
-    
     record { value = rw e (ap WriteAnswer.Refused is); out_after = rw e }
 
 pub put_asdu-requires : goal.put_asdu-requires
@@ -33,5 +31,4 @@ returns c =
     let zero = none _ c.write_refusal-r.ensures c.is_none.ensures c.if-not-is_none.false in
     let e = eq-eqb (write_refusal a (length out)) 0 zero in
     let p = c.put_asdu.ensures in
-    
     record { value = rw e (ap WriteAnswer.Octets (omega (arith, p.next))); out_after = rw e (p.stored ∙ sets_all out (asdu_octets a) (room_enough a (length out) zero l).0) }

@@ -1,6 +1,4 @@
 use mathlib.Core.Path.{sym, ◌∙◌}
-use borrow.Author.Rules.{rules}
-use borrow.Author.Tests.{not-true, not-false}
 use Rattle.asdu.specs.Writing.{write_refusal_by, write_refusal}
 use Rattle.asdu_write.proofs.write_refusal.Goals as goal
 

@@ -1,6 +1,5 @@
 use Prim.Native.Nat.{◌+◌}
 use mathlib.Core.Path.{sym, ◌∙◌}
-use borrow.Author.Rules.{rules}
 use Rattle.laws.proofs.Numbers.{le_one, le_more, le_past}
 use Rattle.laws.proofs.le2.Goals as goal
 

@@ -1,5 +1,4 @@
 use mathlib.Core.Path.{sym}
-use borrow.Author.Rules.{rules}
 use Rattle.laws.proofs.Numbers.{le_more, le_past}
 use Rattle.laws.proofs.le4.Goals as goal
 

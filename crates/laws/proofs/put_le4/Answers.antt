@@ -1,6 +1,4 @@
 use mathlib.Core.Path.{sym, ◌∙◌}
-use lib.ListN.{length-set}
-use borrow.Author.Rules.{rules}
 use Rattle.laws.specs.Numbers.{le_octets}
 use Rattle.laws.proofs.Numbers.{put_more}
 use Rattle.laws.proofs.Lists.{sets_past}

@@ -1,10 +1,9 @@
-use Prim.Native.Nat.{ℕ, ◌+◌, ◌-◌, ◌≤◌, min}
-use mathlib.Core.Path.{◌≡◌, refl, sym, ap, ◌∙◌}
+use Prim.Native.Nat.{ℕ, ◌-◌, ◌≤◌, min}
+use mathlib.Core.Path.{refl, sym, ap, ◌∙◌}
 use native.Mathlib.Omega.{arith}
 use native.Mathlib.Nat.{add-zero}
-use lib.ListN.{length, drop, length-set}
+use lib.ListN.{length, length-set}
 use lib.Seq.{sets}
-use borrow.Author.Rules.{rules}
 use Rattle.laws.proofs.Lists.{sets_turn, sets_stop}
 use Rattle.laws.proofs.put_octets.Goals as goal
 

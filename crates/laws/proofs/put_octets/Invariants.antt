@@ -1,11 +1,7 @@
-use Prim.Native.Nat.{ℕ, ◌+◌, ◌-◌, ◌≤◌, min}
-use mathlib.Core.Path.{◌≡◌, refl, sym, ap, ◌∙◌}
-use native.Mathlib.Omega.{arith}
-use native.Mathlib.Nat.{add-zero}
-use lib.ListN.{length, drop, length-set}
+use Prim.Native.Nat.{◌+◌, ◌-◌, ◌≤◌}
+use mathlib.Core.Path.{◌≡◌}
+use lib.ListN.{length, drop}
 use lib.Seq.{sets}
-use borrow.Author.Rules.{rules}
-use Rattle.laws.proofs.Lists.{sets_turn, sets_stop}
 use Rattle.laws.proofs.put_octets.Given as goal
 
 abbrev pub invariant-loop-i : goal.invariant-loop-i

@@ -1,7 +1,6 @@
-use mathlib.Core.Path.{◌≡◌, sym, ap, ◌∙◌}
+use mathlib.Core.Path.{sym, ap, ◌∙◌}
 use borrow.Author.Tests.{eq-eqb, ne_eqb}
-use borrow.Author.Rules.{rules}
-use Rattle.objects.specs.Kinds.{type_of, value_kind}
+use Rattle.objects.specs.Kinds.{type_of}
 use Rattle.objects.specs.Objects.{kind_refusal}
 use Rattle.objects.proofs.kind_refusal.Goals as goal
 

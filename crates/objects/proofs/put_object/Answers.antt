@@ -3,7 +3,6 @@ use mathlib.Core.Path.{◌≡◌, sym, ◌∙◌}
 use mathlib.Core.List.{List}
 use native.Mathlib.Omega.{arith}
 use lib.Seq.{sets}
-use borrow.Author.Rules.{rules}
 use Rattle.laws.specs.Numbers.{le_octets}
 use Rattle.laws.proofs.Lists.{sets_append, sets_past, rest_sets}
 use Rattle.objects.specs.Elements.{element_octets}

@@ -1,4 +1,3 @@
-use borrow.Author.Rules.{rules}
 use Rattle.objects.specs.Objects.{object_of}
 use Rattle.objects.proofs.read_object.Goals as goal
 

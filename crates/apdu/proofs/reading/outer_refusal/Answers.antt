@@ -1,6 +1,5 @@
 use mathlib.Core.Path.{sym}
 use borrow.Author.Tests.{lt-ltb, le-ltb, eq-eqb, ne_eqb}
-use borrow.Author.Rules.{rules}
 use Rattle.apdu.specs.Reading.{outer_refusal}
 use Rattle.apdu.proofs.reading.outer_refusal.Goals as goal
 

@@ -1,5 +1,4 @@
 use mathlib.Core.Path.{sym, ap, ◌∙◌}
-use borrow.Author.Rules.{rules}
 use borrow.Author.Tests.{eq-eqb, ne_eqb}
 use Rattle.asdu.specs.Plain.{plain_answer}
 use Rattle.apdu.specs.Plain.{plain_frame_by, plain_frame}

@@ -1,6 +1,5 @@
 use mathlib.Core.Path.{sym, ap}
 use borrow.Author.Tests.{eq-eqb, ne_eqb}
-use borrow.Author.Rules.{rules}
 use Rattle.apdu.specs.Reading.{outer_refusal, frame_answer}
 use Rattle.elements.proofs.Refused.{none, some}
 use Rattle.apdu.specs.declared.frame.FrameAnswer.TheVariants.{Refused}

@@ -1,7 +1,6 @@
 use mathlib.Core.Path.{sym, ap, ◌∙◌}
 use Prim.Native.Nat.{ℕ}
 use borrow.Author.Tests.{eq-eqb, ne_eqb}
-use borrow.Author.Rules.{rules}
 use Rattle.apdu.specs.Reading.{long_answer}
 use Rattle.asdu.specs.Reading.{read_refusal}
 use Rattle.elements.specs.Refusals.{refusal}

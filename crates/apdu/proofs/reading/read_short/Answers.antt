@@ -1,6 +1,5 @@
 use mathlib.Core.Path.{sym}
 use borrow.Author.Tests.{eq-eqb, ne_eqb}
-use borrow.Author.Rules.{rules}
 use Rattle.apdu.specs.Reading.{short_answer}
 use Rattle.apdu.proofs.reading.read_short.Goals as goal
 

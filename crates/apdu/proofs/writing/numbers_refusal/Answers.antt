@@ -1,5 +1,4 @@
 use mathlib.Core.Path.{ap, ◌∙◌}
-use borrow.Author.Rules.{rules}
 use Rattle.elements.specs.Refusals.{refusal}
 use Rattle.elements.proofs.Refused.{stops, goes}
 use Rattle.apdu.specs.Writing.{numbers_refusal}

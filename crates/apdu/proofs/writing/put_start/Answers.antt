@@ -1,5 +1,4 @@
 use mathlib.Core.Path.{sym}
-use borrow.Author.Rules.{rules}
 use Rattle.laws.proofs.Lists.{sets_past}
 use Rattle.apdu.specs.Writing.{start_octets}
 use Rattle.apdu.proofs.Answers.{start_stored}

@@ -1,8 +1,7 @@
 use Prim.Native.Nat.{ℕ, ◌+◌, ◌-◌, ◌≤◌}
 use mathlib.Core.Path.{◌≡◌, sym, ap, ◌∙◌}
 use native.Mathlib.Omega.{arith}
-use borrow.Author.Rules.{rules}
-use lib.ListN.{length, length-map}
+use lib.ListN.{length}
 use Rattle.asdu.specs.Writing.{write_refusal, asdu_octets}
 use Rattle.elements.proofs.Refused.{none, some}
 use Rattle.apdu.specs.Writing.{i_octets, i_refusal}

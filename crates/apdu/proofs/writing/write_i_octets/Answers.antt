@@ -1,6 +1,5 @@
 use mathlib.Core.Path.{refl, sym, ◌∙◌}
 use native.Mathlib.Omega.{arith}
-use borrow.Author.Rules.{rules}
 use Rattle.elements.proofs.Refused.{none, some}
 use Rattle.asdu.proofs.Passed.{read_sized}
 use Rattle.apdu.specs.Writing.{i_octets, relay_refusal}

@@ -1,7 +1,6 @@
 use Prim.Native.Nat.{◌*◌}
 use mathlib.Core.Path.{refl, sym, ◌∙◌}
 use native.Mathlib.Omega.{arith}
-use borrow.Author.Rules.{rules}
 use Rattle.elements.proofs.Refused.{none, some}
 use Rattle.apdu.specs.Writing.{s_octets, s_refusal}
 use Rattle.apdu.proofs.Answers.{refuse, accept, then_stops, then_goes, no_room, some_room, number_small, start_long}

@@ -1,6 +1,5 @@
 use Prim.Native.Nat.{ℕ}
 use mathlib.Core.Path.{refl, sym, ap, ◌∙◌}
-use borrow.Author.Rules.{rules}
 use lib.Seq.{sets}
 use Rattle.apdu.specs.Control.{u_octet}
 use Rattle.apdu.specs.Writing.{start_octets, u_octets}

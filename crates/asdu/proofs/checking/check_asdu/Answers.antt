@@ -1,6 +1,5 @@
 use Prim.Native.Nat.{ℕ, ◌/◌, ◌%◌}
 use mathlib.Core.Path.{sym, ap, ◌∙◌}
-use borrow.Author.Rules.{rules}
 use lib.Dec.{eqb}
 use Rattle.laws.proofs.Lists.{octets_all}
 use Rattle.elements.specs.Refusals.{refusal}

@@ -1,5 +1,4 @@
 use mathlib.Core.Path.{sym, ap, ◌∙◌}
-use borrow.Author.Rules.{rules}
 use Rattle.laws.proofs.Lists.{octets_all}
 use Rattle.elements.specs.Refusals.{refusal}
 use Rattle.asdu.proofs.Walk.{by_addresses}

@@ -1,6 +1,6 @@
 use Prim.Native.Nat.{◌%◌}
 use mathlib.Core.Path.{sym, ap, ◌∙◌}
-use borrow.Author.Tests.{lt-ltb, le-ltb, not-true, not-false}
+use borrow.Author.Tests.{lt-ltb, le-ltb}
 use borrow.Author.Rules.{rules}
 use Rattle.laws.proofs.Tests.{tests}
 use Rattle.asdu.specs.Header.{cause_listed, early_refusal}

@@ -1,4 +1,3 @@
-use borrow.Author.Rules.{rules}
 use Rattle.asdu.specs.Header.{header_in}
 use Rattle.asdu.proofs.header.header_of.Goals as goal
 

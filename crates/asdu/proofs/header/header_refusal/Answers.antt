@@ -1,6 +1,5 @@
 use Prim.Native.Nat.{ℕ, ◌/◌, ◌%◌}
 use mathlib.Core.Path.{sym, ap, ◌∙◌}
-use borrow.Author.Rules.{rules}
 use lib.Dec.{eqb}
 use lib.ListN.{length, get_or}
 use Rattle.elements.specs.Refusals.{refusal}

@@ -1,5 +1,4 @@
 use mathlib.Core.Path.{sym, ap, ◌∙◌}
-use borrow.Author.Rules.{rules}
 use Rattle.elements.proofs.Refused.{none, some}
 use Rattle.objects.specs.Kinds.{kind_of}
 use Rattle.asdu.specs.Header.{header_refusal}

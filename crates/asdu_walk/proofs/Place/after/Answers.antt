@@ -1,4 +1,3 @@
-use borrow.Author.Rules.{rules}
 use borrow.Author.Tests.{ne_eqb}
 use Rattle.asdu_walk.specs.Places.{after_of}
 use Rattle.asdu_walk.proofs.Place.after.Goals as goal

@@ -1,5 +1,4 @@
 use mathlib.Core.Path.{◌∙◌}
-use borrow.Author.Rules.{rules}
 use Rattle.laws.specs.Numbers.{le_octets}
 use Rattle.objects.proofs.values.put_bits_and_octet.Goals as goal
 

@@ -1,5 +1,4 @@
 use mathlib.Core.Path.{◌∙◌}
-use borrow.Author.Rules.{rules}
 use Rattle.objects.specs.Elements.{element_octets}
 use Rattle.objects.proofs.values.put_vti.Goals as goal
 

@@ -1,6 +1,5 @@
 use mir.Syntax.{w16, w32}
 use mir.ValLaws.{to_z-of_z}
-use borrow.Author.Rules.{rules}
 use Rattle.objects.specs.Elements.{element_of}
 use Rattle.objects.proofs.values.read_element.Goals as goal
 

@@ -1,7 +1,4 @@
-use Prim.Native.Nat.{ℕ}
 use mathlib.Core.Path.{◌≡◌, refl, ap, ◌∙◌}
-use mathlib.Core.List.{List, [], ◌∷◌}
-use borrow.Author.Rules.{rules}
 use Rattle.elements.specs.Refusals.{refusal}
 use Rattle.objects.specs.Elements.{value_refusal}
 use Rattle.objects.specs.declared.values.Value.{Value}
