@@ -11,7 +11,6 @@ use Rattle.link.specs.Frames.{wire}
 use Rattle.link.specs.Making.{Making, window_full}
 use Rattle.link.specs.Events.{Outcome}
 use Rattle.link.specs.declared.answers.LinkAnswer.{LinkAnswer}
-use Rattle.link.specs.declared.answers.LinkAnswer.TheVariants as LinkAnswer
 use Rattle.link.specs.declared.answers.Called.{Called}
 use Rattle.link.specs.declared.answers.Step.{Step}
 use Rattle.link.specs.declared.answers.Made.{Made}

@@ -5,17 +5,14 @@ use Rattle.laws.specs.Choice.{pick}
 use Rattle.elements.specs.Refusals.{wrong_send_number, u_not_answered, u_timed_out, i_timed_out, too_many_tests, queue_full, not_plain_form}
 use Rattle.asdu.specs.Plain.{plain_answer}
 use Rattle.asdu.specs.declared.PlainAnswer.{PlainAnswer}
-use Rattle.asdu.specs.declared.PlainAnswer.TheVariants as PlainAnswer
 use Rattle.apdu.specs.Control.{receive_number, u_octet}
 use Rattle.apdu.specs.Reading.{frame_answer}
 use Rattle.apdu.specs.declared.frame.UFrame.{UFrame}
 use Rattle.apdu.specs.declared.frame.FrameAnswer.{FrameAnswer}
-use Rattle.apdu.specs.declared.frame.FrameAnswer.TheVariants as FrameAnswer
 use Rattle.link_state.specs.Acknowledging.{acknowledged}
 use Rattle.link_state.specs.Limits.{call_refusal}
 use Rattle.link_state.specs.Opening.{unset}
 use Rattle.link_state.specs.declared.acknowledging.AckAnswer.{AckAnswer}
-use Rattle.link_state.specs.declared.acknowledging.AckAnswer.TheVariants as AckAnswer
 use Rattle.link_state.specs.declared.Deadline.{Deadline}
 use Rattle.link_state.specs.declared.State.{State}
 use Rattle.link_state.specs.declared.Link.{Link}

@@ -15,13 +15,11 @@ use Rattle.laws.proofs.Window.{window}
 use Rattle.elements.specs.Refusals.{wrong_receive_number, wrong_send_number, u_not_answered, too_many_tests, queue_full, not_plain_form}
 use Rattle.asdu.specs.Plain.{plain_answer}
 use Rattle.asdu.specs.declared.PlainAnswer.{PlainAnswer}
-use Rattle.asdu.specs.declared.PlainAnswer.TheVariants as PlainAnswer
 use Rattle.asdu.proofs.Passed.{plain_refused}
 use Rattle.apdu.specs.Control.{u_of, u_octet}
 use Rattle.apdu.specs.Reading.{frame_answer}
 use Rattle.apdu.specs.declared.frame.UFrame.{UFrame}
 use Rattle.apdu.specs.declared.frame.FrameAnswer.{FrameAnswer}
-use Rattle.apdu.specs.declared.frame.FrameAnswer.TheVariants as FrameAnswer
 use Rattle.link_state.specs.declared.Settings.{Settings}
 use Rattle.link_state.specs.declared.Timers.{Timers}
 use Rattle.link.specs.Frames.{Frame, i_frame, s_frame, u_frame, stop_act, stop_con, test_act, test_con}

@@ -13,12 +13,10 @@ use Rattle.laws.specs.Lists.{tabulate, ring}
 use Rattle.elements.specs.Refusals.{refusal, queue_full, not_plain_form, wrong_receive_number, wrong_send_number, u_not_answered, too_many_tests}
 use Rattle.asdu.specs.Plain.{plain_answer}
 use Rattle.asdu.specs.declared.PlainAnswer.{PlainAnswer}
-use Rattle.asdu.specs.declared.PlainAnswer.TheVariants as PlainAnswer
 use Rattle.apdu.specs.Control.{u_octet}
 use Rattle.apdu.specs.Reading.{frame_answer}
 use Rattle.apdu.specs.declared.frame.UFrame.{UFrame}
 use Rattle.apdu.specs.declared.frame.FrameAnswer.{FrameAnswer}
-use Rattle.apdu.specs.declared.frame.FrameAnswer.TheVariants as FrameAnswer
 use Rattle.apdu.proofs.Shapes.{number_in, number_low}
 use Rattle.link_state.specs.Acknowledging.{acknowledged}
 use Rattle.link_state.specs.Opening.{fresh_link, opened}
@@ -29,7 +27,7 @@ use Rattle.link_state.proofs.Sound.{passed}
 use Rattle.link.specs.Frames.{u_with, stop_act, stop_con, test_act, test_con}
 use Rattle.link.specs.Making.{Making, window_open, become, ending}
 use Rattle.link.specs.Events.{Outcome, refusing, closing, accepting, start, s_freeing, on_s, received, i_freeing, on_i, stopped, test_acted, test_confirmed, on_u, on_answer, on_frame, send_plain, send_by, on_send, on_stop, too_many, on_test, is_due, t1i_due, tick_refusal, ticked_t2, ticked_t3, ticked, on_tick, Event, frame, send, stop, test, tick, event_outcome, called}
-use Rattle.link_meaning.specs.Abstract.{Abstract, Progress, Result, freed_by, fits, count, queue, timing, t1u_from, t2_from, t3_from, test_answered, begin, change, letting, finish, accept, refuse, close, step_s, step_i, stop_link, step_u, step_frame, step_plain, step_send, step_stop, many_open, step_test, oldest_due, tick_number, tick_t2, tick_t3, step_tick, fresh, step}
+use Rattle.link_meaning.specs.Abstract.{Abstract, Progress, Result, freed_by, fits, count, timing, t1u_from, t2_from, t3_from, test_answered, begin, change, letting, finish, accept, refuse, close, step_s, step_i, stop_link, step_u, step_frame, step_plain, step_send, step_stop, many_open, step_test, oldest_due, tick_number, tick_t2, tick_t3, step_tick, fresh, step}
 use Rattle.link_meaning.specs.Meaning.{times_of, waiting_of, Means, SameOutcome, OctetsIn, OpensFresh, StepsAlike}
 use Rattle.link_meaning.proofs.Good.{Good, sound_good, good_received}
 use Rattle.asdu.proofs.Passed.{plain_sized}

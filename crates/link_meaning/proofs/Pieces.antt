@@ -13,7 +13,6 @@ use Rattle.elements.specs.Refusals.{refusal, wrong_receive_number}
 use Rattle.link_state.specs.Acknowledging.{confirms, numbers_in_limits, ack_refusal, acknowledged}
 use Rattle.link_state.specs.Opening.{unset}
 use Rattle.link_state.specs.declared.acknowledging.AckAnswer.{AckAnswer}
-use Rattle.link_state.specs.declared.acknowledging.AckAnswer.TheVariants as AckAnswer
 use Rattle.link_state.specs.declared.Settings.{Settings}
 use Rattle.link_state.specs.declared.Status.{Status}
 use Rattle.link_state.specs.declared.Timers.{Timers}

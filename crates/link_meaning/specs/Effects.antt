@@ -4,7 +4,6 @@ use Rattle.laws.specs.Choice.{pick}
 use Rattle.laws.specs.Window.{Confirms, freed}
 use Rattle.apdu.specs.Reading.{frame_answer}
 use Rattle.apdu.specs.declared.frame.FrameAnswer.{FrameAnswer}
-use Rattle.apdu.specs.declared.frame.FrameAnswer.TheVariants as FrameAnswer
 use Rattle.link.specs.Frames.{Frame, i_frame, s_frame, u_frame}
 use Rattle.link.specs.Events.{Event, frame, send, stop, test, tick}
 use Rattle.link_meaning.specs.Abstract.{Abstract, Result, on_wire, step_s, step_i, step}

@@ -18,11 +18,9 @@ use Rattle.apdu.specs.Writing.{start_octets}
 use Rattle.apdu.specs.declared.frame.ReceiveNumber.{ReceiveNumber}
 use Rattle.apdu.specs.declared.frame.UFrame.{UFrame}
 use Rattle.apdu.specs.declared.frame.FrameAnswer.{FrameAnswer}
-use Rattle.apdu.specs.declared.frame.FrameAnswer.TheVariants as FrameAnswer
 use Rattle.apdu.proofs.Shapes.{refused_some}
 use Rattle.link_state.specs.Acknowledging.{confirms, ack_refusal, acknowledged, ack_number}
 use Rattle.link_state.specs.declared.acknowledging.AckAnswer.{AckAnswer}
-use Rattle.link_state.specs.declared.acknowledging.AckAnswer.TheVariants as AckAnswer
 use Rattle.link_state.specs.declared.State.{State}
 use Rattle.link_state.proofs.Acks.{frees_within}
 use Rattle.link.specs.declared.answers.Step.{Step}

@@ -9,7 +9,6 @@ use Rattle.elements.specs.Refusals.{not_plain_form}
 use Rattle.elements.specs.declared.refusals.Refusal.{Refusal}
 use Rattle.asdu.specs.Plain.{plain_answer}
 use Rattle.asdu.specs.declared.PlainAnswer.{PlainAnswer}
-use Rattle.asdu.specs.declared.PlainAnswer.TheVariants as PlainAnswer
 use Rattle.asdu.proofs.Passed.{plain_sized, plain_refused}
 use Rattle.link_state.specs.declared.State.{State}
 use Rattle.link.specs.declared.answers.Step.{Step}

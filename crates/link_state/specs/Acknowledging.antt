@@ -4,7 +4,6 @@ use Rattle.laws.specs.Choice.{pick}
 use Rattle.laws.specs.Window.{freed}
 use Rattle.elements.specs.Refusals.{refusal, outside_limits, wrong_receive_number}
 use Rattle.link_state.specs.declared.acknowledging.AckAnswer.{AckAnswer}
-use Rattle.link_state.specs.declared.acknowledging.AckAnswer.TheVariants as AckAnswer
 
 -- how many frames a receive number confirms, `next` being the number of the next frame to be sent and `held` the frames
 -- outstanding, so that the oldest has the number next - held, going round. With next 5 and held 3 the number 2 confirms none,

@@ -8,7 +8,6 @@ use Rattle.link_state.specs.declared.Deadline.{Deadline}
 use Rattle.link_state.specs.declared.Link.{Link}
 use Rattle.link_state.specs.declared.opening.OpenedLink.{OpenedLink}
 use Rattle.link_state.specs.declared.opening.OpenAnswer.{OpenAnswer}
-use Rattle.link_state.specs.declared.opening.OpenAnswer.TheVariants as OpenAnswer
 
 -- a deadline that is not set, and one that is due from a moment on
 abbrev pub unset : Deadline

@@ -1,7 +1,7 @@
 -- A call as a whole: what a passed check gives the event, and what the call answers, refused by its check or not. Assumes nothing.
 use Prim.Native.Nat.{ℕ, ◌+◌, ◌%◌, ◌≤◌}
 use mathlib.Core.Path.{◌≡◌, subst, ◌∙◌}
-use mathlib.Core.Bool.{Bool, false, true}
+use mathlib.Core.Bool.{Bool, false}
 use mathlib.Core.List.{List}
 use native.Mathlib.Omega.{arith}
 use lib.Dec.{eqb}

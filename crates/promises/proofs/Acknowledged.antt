@@ -12,7 +12,6 @@ use Rattle.laws.proofs.Window.{window}
 use Rattle.elements.specs.Refusals.{refusal, wrong_receive_number}
 use Rattle.link_state.specs.Acknowledging.{confirms, numbers_in_limits, ack_refusal, acknowledged, ack_number, ack_freed}
 use Rattle.link_state.specs.declared.acknowledging.AckAnswer.{AckAnswer}
-use Rattle.link_state.specs.declared.acknowledging.AckAnswer.TheVariants as AckAnswer
 use Rattle.promises.specs.Acknowledged.{Acknowledged, AckLevel}
 
 -- numbers of 15 bits: accepted, or refused with 27

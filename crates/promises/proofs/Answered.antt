@@ -26,11 +26,9 @@ use Rattle.asdu.specs.Plain.{plain_by, plain_answer, plain_number}
 use Rattle.asdu.specs.declared.Asdu.{Asdu}
 use Rattle.asdu.specs.declared.Answer.TheVariants as Answer
 use Rattle.asdu.specs.declared.PlainAnswer.{PlainAnswer}
-use Rattle.asdu.specs.declared.PlainAnswer.TheVariants as PlainAnswer
 use Rattle.asdu.specs.declared.WriteAnswer.TheVariants as WriteAnswer
 use Rattle.asdu.specs.declared.header.Header.{Header}
 use Rattle.asdu.specs.declared.header.HeaderAnswer.{HeaderAnswer}
-use Rattle.asdu.specs.declared.header.HeaderAnswer.TheVariants as HeaderAnswer
 use Rattle.promises.specs.Asdus.{AnswerNumbers}
 
 body_number : (h : Header) (s : List ℕ) → answer_number (read_body h s).answer ≡ objects_refusal h s

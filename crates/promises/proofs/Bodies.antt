@@ -31,7 +31,6 @@ use Rattle.asdu.specs.Reading.{objects_refusal, objects_in, refusal_by, read_ref
 use Rattle.asdu.specs.declared.Answer.{Answer}
 use Rattle.asdu.specs.declared.header.Header.{Header}
 use Rattle.asdu.specs.declared.header.HeaderAnswer.{HeaderAnswer}
-use Rattle.asdu.specs.declared.header.HeaderAnswer.TheVariants as HeaderAnswer
 use Rattle.asdu.proofs.Starts.{accepts}
 use Rattle.asdu.proofs.Walk.{sequence_high}
 use Rattle.asdu.proofs.Lengths.{some_of, some_passes, listed_small}

@@ -17,14 +17,12 @@ use Rattle.assembly.specs.Start.{start_answer}
 use Rattle.assembly.specs.Picking.{from_carry, from_chunk, pick_answer, pick_part}
 use Rattle.assembly.specs.Topping.{on_hand, top_up_answer, moved_in, topped}
 use Rattle.assembly.specs.Stepping.{step_answer, step_moved, step_carry}
-use Rattle.assembly.specs.Streams.{rest, refused, StreamOutcome, no_frames, handed, stream_from, stream, joined}
+use Rattle.assembly.specs.Streams.{rest, refused, no_frames, handed, stream_from, stream, joined}
 use Rattle.assembly.specs.declared.start.StartAnswer.{StartAnswer}
 use Rattle.assembly.specs.declared.start.StartAnswer.TheVariants.{Whole, More, Refused}
 use Rattle.assembly.specs.declared.picking.PickAnswer.{PickAnswer}
-use Rattle.assembly.specs.declared.picking.PickAnswer.TheVariants as PickAnswer
 use Rattle.assembly.specs.declared.topping.TopUpAnswer.{TopUpAnswer}
 use Rattle.assembly.specs.declared.stepping.StepAnswer.{StepAnswer}
-use Rattle.assembly.specs.declared.stepping.StepAnswer.TheVariants as StepAnswer
 use Rattle.assembly.proofs.Sights.{few_more, frame_of, more_few, first_whole, longer_whole, longer_refused, start_short}
 use Rattle.assembly.proofs.Steps.{Needing, held_long, hand_long, pick_by, top_more, top_whole, top_refused, filled, first_part, step_chunk, step_carry_law, step_more, step_refused, carry_after, carry_long, holds_all}
 use Rattle.promises.specs.Streams.{Next, Turn, turns, enough, run_by, step_turn, run, CutIndependent, run_picked, run_topped, top_turn, run_topping, ToppingFirst, InPlace}

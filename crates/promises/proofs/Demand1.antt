@@ -18,28 +18,22 @@ use Rattle.asdu.specs.Plain.{plain_answer, plain_number}
 use Rattle.asdu.specs.declared.Asdu.{Asdu}
 use Rattle.asdu.specs.declared.Answer.TheVariants as Answer
 use Rattle.asdu.specs.declared.PlainAnswer.{PlainAnswer}
-use Rattle.asdu.specs.declared.PlainAnswer.TheVariants as PlainAnswer
 use Rattle.asdu.specs.declared.WriteAnswer.TheVariants as WriteAnswer
 use Rattle.asdu.specs.declared.header.Header.{Header}
 use Rattle.asdu.specs.declared.header.HeaderAnswer.{HeaderAnswer}
-use Rattle.asdu.specs.declared.header.HeaderAnswer.TheVariants as HeaderAnswer
 use Rattle.asdu.proofs.Passed.{plain_refused}
 use Rattle.apdu.specs.Control.{number_at, u_of, u_octet}
 use Rattle.apdu.specs.Reading.{frame_answer, frame_number, asdu_part_by, asdu_part}
 use Rattle.apdu.specs.Writing.{answer_for, output_for}
 use Rattle.apdu.specs.declared.frame.UFrame.{UFrame}
 use Rattle.apdu.specs.declared.frame.FrameAnswer.{FrameAnswer}
-use Rattle.apdu.specs.declared.frame.FrameAnswer.TheVariants as FrameAnswer
 use Rattle.apdu.proofs.Shapes.{number_fits, Shape, i_shape, s_shape, u_shape, refused_shape, shape}
 use Rattle.assembly.specs.Picking.{pick_answer, pick_number, pick_part_by, pick_part}
 use Rattle.assembly.specs.Topping.{top_up_answer, top_up_number, moved_in, topped}
 use Rattle.assembly.specs.Stepping.{step_answer, step_number, step_moved, step_carry}
 use Rattle.assembly.specs.declared.picking.PickAnswer.{PickAnswer}
-use Rattle.assembly.specs.declared.picking.PickAnswer.TheVariants as PickAnswer
 use Rattle.assembly.specs.declared.topping.TopUpAnswer.{TopUpAnswer}
-use Rattle.assembly.specs.declared.topping.TopUpAnswer.TheVariants as TopUpAnswer
 use Rattle.assembly.specs.declared.stepping.StepAnswer.{StepAnswer}
-use Rattle.assembly.specs.declared.stepping.StepAnswer.TheVariants as StepAnswer
 use Rattle.link_state.specs.Acknowledging.{confirms, acknowledged}
 use Rattle.link_state.specs.Limits.{call_refusal}
 use Rattle.link_state.specs.Opening.{set_for, fresh_link, blank_link, open_refusal, refused_opening, opened, open_number}

@@ -19,7 +19,6 @@ use Rattle.laws.proofs.Window.{window}
 use Rattle.elements.specs.Refusals.{refusal}
 use Rattle.apdu.specs.Reading.{frame_answer, asdu_part}
 use Rattle.apdu.specs.declared.frame.FrameAnswer.{FrameAnswer}
-use Rattle.apdu.specs.declared.frame.FrameAnswer.TheVariants as FrameAnswer
 use Rattle.apdu.proofs.Shapes.{number_in, number_low}
 use Rattle.assembly.specs.Streams.{rest, StreamOutcome, stream}
 use Rattle.link_state.specs.Limits.{call_refusal}
@@ -33,7 +32,6 @@ use Rattle.link.specs.Events.{Event, frame, send, stop, test, tick}
 use Rattle.link.specs.Events as events
 use Rattle.link.specs.Answering.{answer_of, called_of, link_number, link_written}
 use Rattle.link.specs.declared.answers.LinkAnswer.{LinkAnswer}
-use Rattle.link.specs.declared.answers.LinkAnswer.TheVariants as LinkAnswer
 use Rattle.link.proofs.Wires.{wire_append}
 use Rattle.link_meaning.specs.Abstract.{Abstract, Result, fresh, step}
 use Rattle.link_meaning.specs.Meaning.{OctetsIn, waiting_of, times_of, SameOutcome}

@@ -22,7 +22,7 @@ use Rattle.link_meaning.specs.Abstract.{Abstract, Progress, fresh, is_open, free
 use Rattle.link_meaning.specs.Meaning.{OctetsIn}
 use Rattle.link_meaning.specs.Runs as totals
 use Rattle.link_meaning.proofs.Runs.{runs_agree}
-use Rattle.promises.specs.Demand3.{Call, answered, pool_after, Entry, entry_of, Run, opening, after, a_of}
+use Rattle.promises.specs.Demand3.{Call, answered, pool_after, Entry, entry_of, Run, opening, after}
 use Rattle.promises.specs.Demand3Runs.{small, first, sending, Reached}
 use Rattle.promises.proofs.FrameBack.{s_reads}
 use Rattle.promises.proofs.Demand3.{Known, entry_bytes, next, next_link, counted_none}

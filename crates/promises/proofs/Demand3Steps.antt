@@ -13,11 +13,9 @@ use Rattle.laws.specs.Window.{Confirms}
 use Rattle.laws.proofs.Choices.{picked, pick_same}
 use Rattle.asdu.specs.Plain.{plain_answer}
 use Rattle.asdu.specs.declared.PlainAnswer.{PlainAnswer}
-use Rattle.asdu.specs.declared.PlainAnswer.TheVariants as PlainAnswer
 use Rattle.asdu.proofs.Passed.{plain_refused}
 use Rattle.apdu.specs.Reading.{frame_answer}
 use Rattle.apdu.specs.declared.frame.FrameAnswer.{FrameAnswer}
-use Rattle.apdu.specs.declared.frame.FrameAnswer.TheVariants as FrameAnswer
 use Rattle.link_state.specs.declared.Settings.{Settings}
 use Rattle.link.specs.Frames.{wire}
 use Rattle.link.specs.Events.{Event, frame, send, stop, test, tick}

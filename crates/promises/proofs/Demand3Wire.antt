@@ -15,7 +15,6 @@ use Rattle.apdu.specs.Reading.{frame_answer, asdu_part}
 use Rattle.apdu.specs.Writing.{i_octets, s_octets, u_octets}
 use Rattle.apdu.specs.declared.frame.UFrame.{UFrame}
 use Rattle.apdu.specs.declared.frame.FrameAnswer.{FrameAnswer}
-use Rattle.apdu.specs.declared.frame.FrameAnswer.TheVariants as FrameAnswer
 use Rattle.apdu.proofs.Answers.{i_long}
 use Rattle.assembly.specs.Start.{start_refusal, sight, start_answer}
 use Rattle.assembly.specs.Streams.{rest, StreamOutcome, handed, outcome_by, stream_from, stream}

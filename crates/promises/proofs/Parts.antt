@@ -20,7 +20,6 @@ use Rattle.assembly.specs.Stepping.{step_answer, step_number, step_moved, step_l
 use Rattle.assembly.specs.declared.start.StartAnswer.{StartAnswer}
 use Rattle.assembly.specs.declared.start.StartAnswer.TheVariants.{Whole, More, Refused}
 use Rattle.assembly.specs.declared.picking.PickAnswer.{PickAnswer}
-use Rattle.assembly.specs.declared.picking.PickAnswer.TheVariants as PickAnswer
 use Rattle.assembly.specs.declared.stepping.StepAnswer.{StepAnswer}
 use Rattle.assembly.proofs.Sights.{frame_of, first_whole, start_short}
 use Rattle.assembly.proofs.Steps.{Needing, held_long, pick_by, top_more, top_whole, top_refused, step_chunk, step_carry_law, carry_long, holds_frame}

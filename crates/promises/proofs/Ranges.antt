@@ -22,7 +22,6 @@ use Rattle.asdu.specs.Header.{cause_listed, cause_in, needed, sequence_in, count
 use Rattle.asdu.specs.Reading.{object_at, answer_at, first_number, objects_refusal, refusal_by, read_refusal}
 use Rattle.asdu.specs.declared.header.Header.{Header}
 use Rattle.asdu.specs.declared.header.HeaderAnswer.{HeaderAnswer}
-use Rattle.asdu.specs.declared.header.HeaderAnswer.TheVariants as HeaderAnswer
 use Rattle.apdu.specs.Reading.{outer_refusal, short_answer, long_answer, frame_answer, frame_number}
 use Rattle.apdu.specs.declared.frame.FrameAnswer.{FrameAnswer}
 use Rattle.apdu.specs.declared.frame.FrameAnswer.TheVariants.{Refused}

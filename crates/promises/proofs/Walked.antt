@@ -26,7 +26,6 @@ use Rattle.asdu_walk.specs.Walks.{walk_of}
 use Rattle.asdu_walk.specs.declared.Place.{Place}
 use Rattle.asdu_walk.specs.declared.Walk.{Walk}
 use Rattle.asdu_walk.specs.declared.Found.{Found}
-use Rattle.asdu_walk.specs.declared.Found.TheVariants as Found
 use Rattle.promises.specs.Walks.{Walks, steps, place_steps, in_order, count_of, refusing}
 use Rattle.promises.proofs.Bodies.{accepted, header_taken, read_is, own_back}
 

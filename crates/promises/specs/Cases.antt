@@ -16,7 +16,6 @@ use Rattle.apdu.specs.Plain.{plain_frame}
 use Rattle.apdu.specs.declared.frame.FrameAnswer.TheVariants.{I, S, U, Refused}
 use Rattle.link_state.specs.Acknowledging.{acknowledged}
 use Rattle.link_state.specs.declared.acknowledging.AckAnswer.{AckAnswer}
-use Rattle.link_state.specs.declared.acknowledging.AckAnswer.TheVariants as AckAnswer
 
 -- ---- what reading answers
 

@@ -7,7 +7,6 @@ use Rattle.laws.specs.Choice.{pick}
 use Rattle.laws.specs.Window.{Confirms, freed}
 use Rattle.apdu.specs.Reading.{frame_answer, asdu_part}
 use Rattle.apdu.specs.declared.frame.FrameAnswer.{FrameAnswer}
-use Rattle.apdu.specs.declared.frame.FrameAnswer.TheVariants as FrameAnswer
 use Rattle.assembly.specs.Streams.{rest, stream}
 use Rattle.link_state.specs.Limits.{call_refusal}
 use Rattle.link_state.specs.Opening.{opened, open_refusal}

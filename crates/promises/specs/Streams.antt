@@ -7,9 +7,7 @@ use Rattle.assembly.specs.Topping.{top_up_answer, top_up_number, moved_in, toppe
 use Rattle.assembly.specs.Stepping.{step_answer, step_number, step_moved, step_length, step_carry}
 use Rattle.assembly.specs.Streams.{End, rest, refused, StreamOutcome, no_frames, handed, stream, joined}
 use Rattle.assembly.specs.declared.picking.PickAnswer.{PickAnswer}
-use Rattle.assembly.specs.declared.picking.PickAnswer.TheVariants as PickAnswer
 use Rattle.assembly.specs.declared.topping.TopUpAnswer.{TopUpAnswer}
-use Rattle.assembly.specs.declared.topping.TopUpAnswer.TheVariants as TopUpAnswer
 use Rattle.assembly.specs.declared.stepping.StepAnswer.{StepAnswer}
 use Rattle.assembly.specs.declared.stepping.StepAnswer.TheVariants.{Chunk, Carry, More, Refused}
 

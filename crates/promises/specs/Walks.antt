@@ -9,7 +9,6 @@ use Rattle.asdu_walk.specs.Walks.{walk_of, next_of, walk_after}
 use Rattle.asdu_walk.specs.declared.Place.{Place}
 use Rattle.asdu_walk.specs.declared.Walk.{Walk}
 use Rattle.asdu_walk.specs.declared.Found.{Found}
-use Rattle.asdu_walk.specs.declared.Found.TheVariants as Found
 
 -- what n steps find: at each what stands there (`next`, `object_from`), then one further (`after`, `Place::after`)
 abbrev pub steps : Walk → ℕ → List Found

@@ -2,7 +2,6 @@ use mathlib.Core.Path.{refl}
 use Rattle.link.specs.Events.{on_answer}
 use Rattle.link_steps.proofs.Unchanged.{u_times, does_same}
 use Rattle.link_receive.proofs.Incoming.{frame_answered, frame_refused}
-use borrow.Author.Rules.{rules}
 use Rattle.link_receive.proofs.on_frame.Goals as goal
 
 pub returns-in-I : goal.returns-in-I

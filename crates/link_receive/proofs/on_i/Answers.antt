@@ -7,7 +7,6 @@ use Rattle.link_state.specs.declared.State.{State}
 use Rattle.link.specs.Events.{release, received, closing, on_i}
 use Rattle.link_steps.proofs.Made.{answers_closing}
 use Rattle.link_receive.proofs.Incoming.{timed_by, Released, open_received, released, frees_held, i_refused, i_frees}
-use borrow.Author.Rules.{rules}
 use Rattle.link_receive.proofs.on_i.Goals as goal
 
 pub returns-then-sent-s : goal.returns-then-sent-s

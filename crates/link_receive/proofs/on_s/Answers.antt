@@ -2,7 +2,6 @@ use mathlib.Core.Path.{◌≡◌, ap, ◌∙◌}
 use native.Mathlib.Omega.{arith}
 use Rattle.link_state.specs.declared.State.{State}
 use Rattle.link_receive.proofs.Incoming.{timed_by, released, frees_held, s_refused, s_frees}
-use borrow.Author.Rules.{rules}
 use Rattle.link_receive.proofs.on_s.Goals as goal
 
 pub returns-in_default : goal.returns-in_default

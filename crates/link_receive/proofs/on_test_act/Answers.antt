@@ -1,12 +1,9 @@
-use mathlib.Core.Path.{◌≡◌, refl, ap}
+use mathlib.Core.Path.{refl}
 use mathlib.Core.Bool.{false}
-use native.Mathlib.Omega.{arith}
-use Rattle.link_state.specs.declared.State.{State}
 use Rattle.link.specs.Frames.{test_con}
 use Rattle.link.specs.Making.{set_t3}
 use Rattle.link.specs.Events.{test_acted}
 use Rattle.link_steps.proofs.Made.{makes_u, makes_become, answers_ending}
-use borrow.Author.Rules.{rules}
 use Rattle.link_receive.proofs.on_test_act.Goals as goal
 
 pub returns : goal.returns

@@ -1,12 +1,9 @@
-use mathlib.Core.Path.{◌≡◌, ap, ◌∙◌}
+use mathlib.Core.Path.{ap, ◌∙◌}
 use mathlib.Core.Bool.{false}
-use native.Mathlib.Omega.{arith}
 use Rattle.link_state.specs.declared.State.{State}
 use Rattle.link.specs.Making.{set_t3}
 use Rattle.link.specs.Events.{tests_answered, test_confirmed}
 use Rattle.link_steps.proofs.Made.{makes_none, makes_become, answers_ending}
-use Rattle.link_receive.proofs.Incoming.{timed_by}
-use borrow.Author.Rules.{rules}
 use Rattle.link_receive.proofs.on_test_con.Goals as goal
 
 pub returns : goal.returns

@@ -1,6 +1,5 @@
 use mathlib.Core.Path.{refl}
 use Rattle.link_receive.proofs.Incoming.{u_test_act, u_test_con, u_stop_act, u_stop_con, u_other}
-use borrow.Author.Rules.{rules}
 use Rattle.link_receive.proofs.on_u.Goals as goal
 
 pub returns-then-octet-eq-TEST_ACT : goal.returns-then-octet-eq-TEST_ACT

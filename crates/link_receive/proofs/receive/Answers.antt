@@ -1,15 +1,13 @@
-use mathlib.Core.Path.{◌≡◌, sym, ◌∙◌}
-use lib.ListN.{length, length-map}
+use mathlib.Core.Path.{◌≡◌}
+use lib.ListN.{length}
 use Rattle.elements.proofs.Refused.{none}
 use Rattle.link.specs.Events.{frame, event_outcome}
 use Rattle.link_steps.proofs.Calls.{opened, few_unconfirmed, call_refused, call_does}
-use borrow.Author.Rules.{rules}
 use Rattle.link_receive.proofs.receive.Goals as goal
 
 pub returns-then-not-is_none : goal.returns-then-not-is_none
 returns-then-not-is_none c =
     let r = call_refused (frame c.args.f.now c.args.more) c.args.l c.args.pool.now c.args.out.now c.args.moment c.check_call-refused.ensures c.is_none.ensures c.if-not-is_none.true c.refuse_call.ensures in
-    
     record { value = r.0; out_after = r.2 }
 
 pub on_frame-step-requires : goal.on_frame-step-requires

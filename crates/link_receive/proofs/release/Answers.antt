@@ -1,6 +1,5 @@
 use Rattle.link.specs.Events.{release}
 use Rattle.link_receive.proofs.Incoming.{open_freed}
-use borrow.Author.Rules.{rules}
 use Rattle.link_receive.proofs.release.Goals as goal
 
 pub send_waiting-requires : goal.send_waiting-requires

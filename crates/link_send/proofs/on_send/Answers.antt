@@ -1,6 +1,5 @@
 use Rattle.link.specs.Events.{send_by}
 use Rattle.link_send.proofs.Outgoing.{plain_small, send_answered, send_reserved, send_refused}
-use borrow.Author.Rules.{rules}
 use Rattle.link_send.proofs.on_send.Goals as goal
 
 pub send_plain-requires : goal.send_plain-requires

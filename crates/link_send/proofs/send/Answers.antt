@@ -1,9 +1,8 @@
-use mathlib.Core.Path.{◌≡◌, sym, ◌∙◌}
-use lib.ListN.{length, length-map}
+use mathlib.Core.Path.{◌≡◌}
+use lib.ListN.{length}
 use Rattle.elements.proofs.Refused.{none}
 use Rattle.link.specs.Events.{send, event_outcome}
 use Rattle.link_steps.proofs.Calls.{opened, call_refused, call_sends}
-use borrow.Author.Rules.{rules}
 use Rattle.link_send.proofs.send.Goals as goal
 
 pub returns-then-not-is_none : goal.returns-then-not-is_none

@@ -7,7 +7,6 @@ use Rattle.link.specs.Events.{start, accepting}
 use Rattle.link_steps.proofs.Made.{answers_ending}
 use Rattle.link_steps.proofs.Flushing.{hand_out_short}
 use Rattle.link_steps.proofs.Unchanged.{ending_times}
-use borrow.Author.Rules.{rules}
 use Rattle.link_send.proofs.send_now.Goals as goal
 
 pub finish-ended-requires : goal.finish-ended-requires

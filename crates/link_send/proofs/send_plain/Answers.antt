@@ -1,18 +1,15 @@
 use Prim.Native.Nat.{◌*◌}
-use mathlib.Core.Path.{◌≡◌, refl, sym, ap}
+use mathlib.Core.Path.{refl, sym}
 use mathlib.Core.Bool.{false}
 use lib.ListN.{length}
 use lib.Seq.{sets}
-use native.Mathlib.Omega.{arith}
 use borrow.Author.Tests.{lt-ltb, le-ltb, le-leb, lt-leb}
 use Rattle.elements.specs.Refusals.{queue_full}
-use Rattle.link_state.specs.declared.State.{State}
 use Rattle.link.specs.Making.{with_queue, queued, free_slot, window_open}
 use Rattle.link.specs.Events.{start, accepting, send_plain}
 use Rattle.link_steps.proofs.Made.{makes_none, answers_ending}
 use Rattle.link_steps.proofs.Unchanged.{ending_times}
 use Rattle.link_send.proofs.Outgoing.{refuses}
-use borrow.Author.Rules.{rules}
 use Rattle.link_send.proofs.send_plain.Goals as goal
 
 pub returns-then-s : goal.returns-then-s

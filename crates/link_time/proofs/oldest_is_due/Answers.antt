@@ -1,5 +1,4 @@
 use native.Mathlib.Omega.{arith}
-use borrow.Author.Rules.{rules}
 use borrow.Author.Tests.{lt-ltb}
 use Rattle.link.specs.Events.{t1i_due}
 use Rattle.link_time.proofs.oldest_is_due.Goals as goal

@@ -1,11 +1,10 @@
-use mathlib.Core.Path.{◌≡◌, refl, ap, ◌∙◌}
+use mathlib.Core.Path.{◌≡◌, refl, ap}
 use mathlib.Core.Bool.{false}
 use native.Mathlib.Omega.{arith}
-use borrow.Author.Rules.{rules}
 use Rattle.link_state.specs.declared.State.{State}
 use Rattle.link.specs.declared.answers.Made.{Made}
 use Rattle.link.specs.Frames.{stop_act}
-use Rattle.link.specs.Making.{confirmed_of, confirm, set_t1u}
+use Rattle.link.specs.Making.{confirmed_of, set_t1u}
 use Rattle.link.specs.Events.{on_stop}
 use Rattle.link_steps.proofs.Made.{makes_u, makes_confirm, makes_become, makes_then, confirm_appends, answers_ending}
 use Rattle.link_time.proofs.on_stop.Goals as goal

@@ -2,7 +2,6 @@ use mathlib.Core.Path.{◌≡◌, ap, ◌∙◌}
 use mathlib.Core.Bool.{false}
 use mathlib.Core.List.{[]}
 use native.Mathlib.Omega.{arith}
-use borrow.Author.Rules.{rules}
 use Rattle.elements.specs.declared.refusals.Refusal.{Refusal}
 use Rattle.elements.proofs.Refused.{none, some}
 use Rattle.link_state.specs.declared.State.{State}

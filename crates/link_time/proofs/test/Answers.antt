@@ -3,13 +3,11 @@ use Rattle.elements.proofs.Refused.{none}
 use Rattle.link.specs.Events.{test, event_outcome}
 use Rattle.link_steps.proofs.Unchanged.{test_times, does_same}
 use Rattle.link_steps.proofs.Calls.{calm, call_refused, call_does}
-use borrow.Author.Rules.{rules}
 use Rattle.link_time.proofs.test.Goals as goal
 
 pub returns-then-not-is_none : goal.returns-then-not-is_none
 returns-then-not-is_none c =
     let r = call_refused test c.args.l c.args.pool.now c.args.out.now c.args.moment c.check_call-refused.ensures c.is_none.ensures c.if-not-is_none.true c.refuse_call.ensures in
-    
     record { value = r.0; out_after = r.2 }
 
 pub on_test-step-requires : goal.on_test-step-requires

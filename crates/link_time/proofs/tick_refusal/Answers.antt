@@ -1,5 +1,4 @@
 use mathlib.Core.Path.{sym, ◌∙◌}
-use borrow.Author.Rules.{rules}
 use Rattle.link.specs.Events.{tick_refusal, too_many}
 use Rattle.link_time.proofs.tick_refusal.Goals as goal
 

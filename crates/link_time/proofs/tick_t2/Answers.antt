@@ -1,5 +1,4 @@
 use mathlib.Core.Path.{sym, ◌∙◌}
-use borrow.Author.Rules.{rules}
 use Rattle.link.specs.Events.{ticked_t2}
 use Rattle.link_steps.proofs.Made.{makes_confirm, makes_none}
 use Rattle.link_time.proofs.tick_t2.Goals as goal

@@ -1,5 +1,4 @@
 use mathlib.Core.Path.{sym, ◌∙◌}
-use borrow.Author.Rules.{rules}
 use Rattle.link.specs.Events.{ticked_t3}
 use Rattle.link_steps.proofs.Made.{makes_tested, makes_none}
 use Rattle.link_time.proofs.tick_t3.Goals as goal

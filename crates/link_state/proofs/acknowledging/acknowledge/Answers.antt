@@ -1,9 +1,8 @@
-use Prim.Native.Nat.{ℕ, ◌+◌, ◌-◌, ◌%◌, ◌≤◌}
+use Prim.Native.Nat.{ℕ}
 use mathlib.Core.Path.{◌≡◌}
 use mathlib.Core.Bool.{true, ◌&&◌}
 use lib.Dec.{leb}
 use native.Mathlib.Omega.{arith}
-use borrow.Author.Rules.{rules}
 use Rattle.laws.proofs.Window.{ahead}
 use Rattle.link_state.specs.Acknowledging.{confirms, numbers_in_limits}
 use Rattle.link_state.proofs.Acks.{in_limits, outside, frees, past}

@@ -1,12 +1,4 @@
 use Prim.Native.Nat.{◌+◌, ◌-◌, ◌%◌, ◌≤◌}
-use mathlib.Core.Path.{◌≡◌}
-use mathlib.Core.Bool.{true}
-use native.Mathlib.Omega.{arith}
-use borrow.Author.Rules.{rules}
-use borrow.Author.Tests.{not-true, not-false}
-use Rattle.laws.proofs.Window.{ahead}
-use Rattle.link_state.specs.Acknowledging.{confirms, numbers_in_limits}
-use Rattle.link_state.proofs.Acks.{in_limits, outside, frees, past}
 use Rattle.link_state.proofs.acknowledging.acknowledge.Given as goal
 
 abbrev pub invariant-loop-freed : goal.invariant-loop-freed

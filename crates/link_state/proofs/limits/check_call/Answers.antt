@@ -1,6 +1,5 @@
 use mathlib.Core.Path.{◌≡◌}
 use mathlib.Core.Bool.{true}
-use borrow.Author.Rules.{rules}
 use borrow.Author.Tests.{lt-ltb, le-ltb}
 use Rattle.link_state.specs.Limits.{sound_link, call_refusal}
 use Rattle.laws.proofs.Clauses.{failed, holds}

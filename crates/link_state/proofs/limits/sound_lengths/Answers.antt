@@ -1,8 +1,6 @@
-use Prim.Native.Nat.{◌≤◌, ◌-◌}
 use mathlib.Core.Path.{◌≡◌, refl, ap, ◌∙◌}
 use native.Mathlib.Omega.{arith}
 use native.Mathlib.Numerals.{add-one}
-use borrow.Author.Rules.{rules}
 use Rattle.laws.specs.Lists.{every}
 use Rattle.link_state.specs.Limits.{sound_lengths, sound_length}
 use Rattle.link_state.proofs.limits.sound_lengths.Goals as goal

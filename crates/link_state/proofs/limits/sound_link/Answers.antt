@@ -1,7 +1,6 @@
 use mathlib.Core.Path.{◌≡◌}
 use mathlib.Core.Bool.{true}
 use native.Mathlib.Omega.{arith}
-use borrow.Author.Rules.{rules}
 use Rattle.link_state.specs.Limits.{sound_link, sound_settings, sound_counts}
 use Rattle.laws.proofs.Clauses.{failed, holds}
 use Rattle.link_state.proofs.Sound.{Sound, sound_counts_law}

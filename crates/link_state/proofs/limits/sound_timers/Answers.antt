@@ -1,4 +1,3 @@
-use borrow.Author.Rules.{rules}
 use Rattle.link_state.specs.Limits.{sound_timers}
 use Rattle.link_state.proofs.limits.sound_timers.Goals as goal
 

@@ -1,8 +1,6 @@
-use Prim.Native.Nat.{◌≤◌, ◌-◌}
 use mathlib.Core.Path.{◌≡◌, refl, ap, ◌∙◌}
 use native.Mathlib.Omega.{arith}
 use native.Mathlib.Numerals.{add-one}
-use borrow.Author.Rules.{rules}
 use Rattle.laws.specs.Lists.{every}
 use Rattle.link_state.specs.Limits.{sound_times, sound_time_at}
 use Rattle.link_state.proofs.limits.sound_times.Goals as goal

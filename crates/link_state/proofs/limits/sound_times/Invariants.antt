@@ -1,10 +1,7 @@
 use Prim.Native.Nat.{◌≤◌, ◌-◌}
-use mathlib.Core.Path.{◌≡◌, refl, ap, ◌∙◌}
-use native.Mathlib.Omega.{arith}
-use native.Mathlib.Numerals.{add-one}
-use borrow.Author.Rules.{rules}
+use mathlib.Core.Path.{◌≡◌}
 use Rattle.laws.specs.Lists.{every}
-use Rattle.link_state.specs.Limits.{sound_times, sound_time_at}
+use Rattle.link_state.specs.Limits.{sound_time_at}
 use Rattle.link_state.proofs.limits.sound_times.Given as goal
 
 abbrev pub invariant-loop-i : goal.invariant-loop-i

@@ -1,4 +1,3 @@
-use borrow.Author.Rules.{rules}
 use Rattle.link_state.specs.Opening.{refused_opening, blank_link}
 use Rattle.link_state.proofs.opening.refused.Goals as goal
 

@@ -1,5 +1,4 @@
 use mathlib.Core.Path.{sym, ◌∙◌}
-use borrow.Author.Rules.{rules}
 use Rattle.link.specs.Making.{ending}
 use Rattle.link_steps.proofs.Made.{makes_confirm, makes_none}
 use Rattle.link_steps.proofs.steps.finish.Goals as goal

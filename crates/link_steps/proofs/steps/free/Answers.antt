@@ -1,5 +1,4 @@
 use mathlib.Core.Path.{refl}
-use borrow.Author.Rules.{rules}
 use Rattle.link.specs.Making.{freed_of}
 use Rattle.link_steps.proofs.steps.free.Goals as goal
 

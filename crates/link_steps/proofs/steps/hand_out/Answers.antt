@@ -1,9 +1,4 @@
-use Prim.Native.Nat.{◌+◌, ◌%◌, ◌<◌}
 use mathlib.Core.Path.{refl}
-use native.Mathlib.Omega.{arith}
-use native.Mathlib.Nat.{mod-lt}
-use lib.ListN.{length}
-use borrow.Author.Rules.{rules}
 use Rattle.link_steps.proofs.Made.{hands_out}
 use Rattle.link_steps.proofs.steps.hand_out.Goals as goal
 

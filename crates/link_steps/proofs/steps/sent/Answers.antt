@@ -1,5 +1,4 @@
 use mathlib.Core.Path.{refl}
-use borrow.Author.Rules.{rules}
 use Rattle.link.specs.Making.{sent_of}
 use Rattle.link_steps.proofs.steps.sent.Goals as goal
 

@@ -1,13 +1,9 @@
 use Prim.Native.Nat.{◌-◌, ◌*◌, ◌≤◌}
-use mathlib.Core.Path.{◌≡◌, refl, ◌∙◌}
-use native.Mathlib.Omega.{arith}
-use native.Mathlib.Numerals.{add-one}
+use mathlib.Core.Path.{◌≡◌}
 use lib.ListN.{length}
 use Rattle.link.specs.Making.{flushed}
 use Rattle.link.specs.Events.{start}
-use Rattle.link.specs.Answering.{made_of, HandsOut, CanLetOut}
-use Rattle.link_steps.proofs.Made.{makes_none, hands_then, let_out_appends}
-use Rattle.link_steps.proofs.Flushing.{can_let_out, let_out_short}
+use Rattle.link.specs.Answering.{made_of, HandsOut}
 use Rattle.link_steps.proofs.waiting.flush.Given as goal
 
 abbrev pub invariant-loop-i : goal.invariant-loop-i

@@ -1,11 +1,10 @@
 use Prim.Native.Nat.{ℕ, ◌+◌, ◌-◌, ◌*◌}
-use mathlib.Core.Path.{◌≡◌, ap, ◌∙◌}
+use mathlib.Core.Path.{◌≡◌, ap}
 use native.Mathlib.Nat.{add-sub_cancel_left}
-use borrow.Author.Rules.{rules}
-use lib.ListN.{length, get_or, take, drop}
+use lib.ListN.{get_or, take, drop}
 use Rattle.link_state.specs.declared.State.{State}
 use Rattle.link.specs.Making.{sent_of, hand_out, first_waiting}
-use Rattle.link_steps.proofs.Flushing.{slot_length, let_out_law}
+use Rattle.link_steps.proofs.Flushing.{let_out_law}
 use Rattle.link_steps.proofs.waiting.let_out.Goals as goal
 
 pub shift-requires : goal.shift-requires

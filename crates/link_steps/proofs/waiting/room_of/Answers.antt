@@ -1,5 +1,4 @@
 use native.Mathlib.Omega.{arith}
-use borrow.Author.Rules.{rules}
 use Rattle.link.specs.Making.{room}
 use Rattle.link_steps.proofs.waiting.room_of.Goals as goal
 

@@ -1,4 +1,3 @@
-use borrow.Author.Rules.{rules}
 use Rattle.link.specs.Making.{send_waiting}
 use Rattle.link_steps.proofs.Flushing.{can_flush}
 use Rattle.link_steps.proofs.waiting.send_waiting.Goals as goal

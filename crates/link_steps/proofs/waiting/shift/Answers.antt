@@ -1,5 +1,4 @@
 use mathlib.Core.Path.{refl}
-use borrow.Author.Rules.{rules}
 use Rattle.link.specs.Making.{shifted}
 use Rattle.link_steps.proofs.waiting.shift.Goals as goal
 
