@@ -136,7 +136,7 @@ pub fn after<'a>(walk: Walk<'a>) -> Walk<'a>
     }
 }
 
-// What a walk over the ASDU finds at the place, for a caller with neither a walk nor its proof by hand.
+// What a walk over the ASDU finds at the place, for a caller that keeps no walk.
 pub fn object_from(asdu: &[u8], place: Place) -> Found
     ensures { result ≡ found_at asdu.now place }
 {
