@@ -29,17 +29,32 @@ release-made-requires c =
 pub start_t2-started-requires : goal.start_t2-started-requires
 unfolding received
 start_t2-started-requires c =
-    timed_by (let known : c.release-made.result.state.settings ≡ c.args.s.settings = ap (λ (x : State). x.settings) c.release-made.ensures.makes.state ∙ ((let known : Released c.receive_one-counted.result (release c.in-Frees.freed c.args.moment c.receive_one-counted.result c.args.times.now c.args.pool.now) = let counted = c.receive_one-counted in released counted.result c.args.times.now c.args.pool.now (length c.args.pool.now) (length c.args.out.now) c.args.moment c.in-Frees.freed (rw counted.ensures (open_received c.args.s _ _ _ _ c.requires.0)) in known).settings ∙ ap (λ (x : State). x.settings) c.receive_one-counted.ensures) in known) c.requires.0.calm.timed
+    let a = c.args in
+    let counted = c.receive_one-counted in
+    let left : Released counted.result (release c.in-Frees.freed a.moment counted.result a.times.now a.pool.now) =
+    released counted.result a.times.now a.pool.now (length a.pool.now) (length a.out.now) a.moment c.in-Frees.freed (rw counted.ensures (open_received a.s _ _ _ _ c.requires.0)) in
+    let settings : c.release-made.result.state.settings ≡ a.s.settings =
+    ap (λ (x : State). x.settings) c.release-made.ensures.makes.state ∙ (left.settings ∙ ap (λ (x : State). x.settings) counted.ensures) in
+    timed_by settings c.requires.0.calm.timed
 
 pub set_t3-stamped-requires : goal.set_t3-stamped-requires
 unfolding received
 set_t3-stamped-requires c =
-    timed_by (ap (λ (x : State). x.settings) c.start_t2-started.ensures ∙ (let known : c.release-made.result.state.settings ≡ c.args.s.settings = ap (λ (x : State). x.settings) c.release-made.ensures.makes.state ∙ ((let known : Released c.receive_one-counted.result (release c.in-Frees.freed c.args.moment c.receive_one-counted.result c.args.times.now c.args.pool.now) = let counted = c.receive_one-counted in released counted.result c.args.times.now c.args.pool.now (length c.args.pool.now) (length c.args.out.now) c.args.moment c.in-Frees.freed (rw counted.ensures (open_received c.args.s _ _ _ _ c.requires.0)) in known).settings ∙ ap (λ (x : State). x.settings) c.receive_one-counted.ensures) in known)) c.requires.0.calm.timed
+    let a = c.args in
+    let counted = c.receive_one-counted in
+    let left : Released counted.result (release c.in-Frees.freed a.moment counted.result a.times.now a.pool.now) =
+    released counted.result a.times.now a.pool.now (length a.pool.now) (length a.out.now) a.moment c.in-Frees.freed (rw counted.ensures (open_received a.s _ _ _ _ c.requires.0)) in
+    let settings : c.release-made.result.state.settings ≡ a.s.settings =
+    ap (λ (x : State). x.settings) c.release-made.ensures.makes.state ∙ (left.settings ∙ ap (λ (x : State). x.settings) counted.ensures) in
+    timed_by (ap (λ (x : State). x.settings) c.start_t2-started.ensures ∙ settings) c.requires.0.calm.timed
 
 pub finish-ended-requires : goal.finish-ended-requires
 finish-ended-requires c =
     let out = c.release-made in
-    let left = (let known : Released c.receive_one-counted.result (release c.in-Frees.freed c.args.moment c.receive_one-counted.result c.args.times.now c.args.pool.now) = let counted = c.receive_one-counted in released counted.result c.args.times.now c.args.pool.now (length c.args.pool.now) (length c.args.out.now) c.args.moment c.in-Frees.freed (rw counted.ensures (open_received c.args.s _ _ _ _ c.requires.0)) in known) in
+    let a = c.args in
+    let counted = c.receive_one-counted in
+    let left : Released counted.result (release c.in-Frees.freed a.moment counted.result a.times.now a.pool.now) =
+    released counted.result a.times.now a.pool.now (length a.pool.now) (length a.out.now) a.moment c.in-Frees.freed (rw counted.ensures (open_received a.s _ _ _ _ c.requires.0)) in
     let end = out.ensures.makes.end in
     let short = left.short in
     let next : c.set_t3-stamped.result.receive.next.0 ≡ (received c.args.s).receive.next.0 =

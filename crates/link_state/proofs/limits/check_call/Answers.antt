@@ -11,27 +11,36 @@ returns-then-not-sound_link c = rw (failed c.sound_link.ensures c.if-not-sound_l
 
 pub returns-then-l : goal.returns-then-l
 unfolding call_refusal
-returns-then-l c = rw ((let known : sound_link c.args.l ≡ true = holds c.sound_link.ensures c.if-not-sound_link.false in known), c.if-l.true)
+returns-then-l c =
+    let sound : sound_link c.args.l ≡ true = holds c.sound_link.ensures c.if-not-sound_link.false in
+    rw (sound, c.if-l.true)
 
 pub returns-then-output-lt-MIN_OUTPUT : goal.returns-then-output-lt-MIN_OUTPUT
 unfolding call_refusal
-returns-then-output-lt-MIN_OUTPUT c = rw ((let known : sound_link c.args.l ≡ true = holds c.sound_link.ensures c.if-not-sound_link.false in known), c.if-l.false, lt-ltb _ _ c.if-output-lt-MIN_OUTPUT.true)
+returns-then-output-lt-MIN_OUTPUT c =
+    let sound : sound_link c.args.l ≡ true = holds c.sound_link.ensures c.if-not-sound_link.false in
+    rw (sound, c.if-l.false, lt-ltb _ _ c.if-output-lt-MIN_OUTPUT.true)
 
 pub returns-then-pool-lt-MIN_POOL : goal.returns-then-pool-lt-MIN_POOL
 unfolding call_refusal
-returns-then-pool-lt-MIN_POOL c = rw ((let known : sound_link c.args.l ≡ true = holds c.sound_link.ensures c.if-not-sound_link.false in known), c.if-l.false, le-ltb _ _ c.if-output-lt-MIN_OUTPUT.false, lt-ltb _ _ c.if-pool-lt-MIN_POOL.true)
+returns-then-pool-lt-MIN_POOL c =
+    let sound : sound_link c.args.l ≡ true = holds c.sound_link.ensures c.if-not-sound_link.false in
+    rw (sound, c.if-l.false, le-ltb _ _ c.if-output-lt-MIN_OUTPUT.false, lt-ltb _ _ c.if-pool-lt-MIN_POOL.true)
 
 pub returns-then-moment-gt-MAX_CLOCK : goal.returns-then-moment-gt-MAX_CLOCK
 unfolding call_refusal
 returns-then-moment-gt-MAX_CLOCK c =
-    rw ((let known : sound_link c.args.l ≡ true = holds c.sound_link.ensures c.if-not-sound_link.false in known), c.if-l.false, le-ltb _ _ c.if-output-lt-MIN_OUTPUT.false, le-ltb _ _ c.if-pool-lt-MIN_POOL.false, lt-ltb _ _ c.if-moment-gt-MAX_CLOCK.true)
+    let sound : sound_link c.args.l ≡ true = holds c.sound_link.ensures c.if-not-sound_link.false in
+    rw (sound, c.if-l.false, le-ltb _ _ c.if-output-lt-MIN_OUTPUT.false, le-ltb _ _ c.if-pool-lt-MIN_POOL.false, lt-ltb _ _ c.if-moment-gt-MAX_CLOCK.true)
 
 pub returns-then-moment-l : goal.returns-then-moment-l
 unfolding call_refusal
 returns-then-moment-l c =
-    rw ((let known : sound_link c.args.l ≡ true = holds c.sound_link.ensures c.if-not-sound_link.false in known), c.if-l.false, le-ltb _ _ c.if-output-lt-MIN_OUTPUT.false, le-ltb _ _ c.if-pool-lt-MIN_POOL.false, le-ltb _ _ c.if-moment-gt-MAX_CLOCK.false, lt-ltb _ _ c.if-moment-l.true)
+    let sound : sound_link c.args.l ≡ true = holds c.sound_link.ensures c.if-not-sound_link.false in
+    rw (sound, c.if-l.false, le-ltb _ _ c.if-output-lt-MIN_OUTPUT.false, le-ltb _ _ c.if-pool-lt-MIN_POOL.false, le-ltb _ _ c.if-moment-gt-MAX_CLOCK.false, lt-ltb _ _ c.if-moment-l.true)
 
 pub returns : goal.returns
 unfolding call_refusal
 returns c =
-    rw ((let known : sound_link c.args.l ≡ true = holds c.sound_link.ensures c.if-not-sound_link.false in known), c.if-l.false, le-ltb _ _ c.if-output-lt-MIN_OUTPUT.false, le-ltb _ _ c.if-pool-lt-MIN_POOL.false, le-ltb _ _ c.if-moment-gt-MAX_CLOCK.false, le-ltb _ _ c.if-moment-l.false)
+    let sound : sound_link c.args.l ≡ true = holds c.sound_link.ensures c.if-not-sound_link.false in
+    rw (sound, c.if-l.false, le-ltb _ _ c.if-output-lt-MIN_OUTPUT.false, le-ltb _ _ c.if-pool-lt-MIN_POOL.false, le-ltb _ _ c.if-moment-gt-MAX_CLOCK.false, le-ltb _ _ c.if-moment-l.false)

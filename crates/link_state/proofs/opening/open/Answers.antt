@@ -14,11 +14,17 @@ returns-then-not-sound_settings c = rw (c.refused.ensures, failed c.sound_settin
 
 pub returns-then-moment-gt-MAX_CLOCK : goal.returns-then-moment-gt-MAX_CLOCK
 unfolding opened open_refusal
-returns-then-moment-gt-MAX_CLOCK c = rw (c.refused-then-moment-gt-MAX_CLOCK.ensures, (let known : sound_settings c.args.settings ≡ true = holds c.sound_settings.ensures c.if-not-sound_settings.false in known), lt-ltb _ _ c.if-moment-gt-MAX_CLOCK.true)
+returns-then-moment-gt-MAX_CLOCK c =
+    let sound : sound_settings c.args.settings ≡ true = holds c.sound_settings.ensures c.if-not-sound_settings.false in
+    rw (c.refused-then-moment-gt-MAX_CLOCK.ensures, sound, lt-ltb _ _ c.if-moment-gt-MAX_CLOCK.true)
 
 pub overflow_add-t3 : goal.overflow_add-t3
-overflow_add-t3 c = let h = t3_small _ (let known : sound_settings c.args.settings ≡ true = holds c.sound_settings.ensures c.if-not-sound_settings.false in known) in omega arith
+overflow_add-t3 c =
+    let sound : sound_settings c.args.settings ≡ true = holds c.sound_settings.ensures c.if-not-sound_settings.false in
+    let h = t3_small _ sound in omega arith
 
 pub returns : goal.returns
 unfolding opened open_refusal
-returns c = rw (c.fresh.ensures, (let known : sound_settings c.args.settings ≡ true = holds c.sound_settings.ensures c.if-not-sound_settings.false in known), le-ltb _ _ c.if-moment-gt-MAX_CLOCK.false)
+returns c =
+    let sound : sound_settings c.args.settings ≡ true = holds c.sound_settings.ensures c.if-not-sound_settings.false in
+    rw (c.fresh.ensures, sound, le-ltb _ _ c.if-moment-gt-MAX_CLOCK.false)

@@ -15,7 +15,12 @@ loop-i-init c =
     (omega arith, omega arith, refl, refl, record { makes = makes_none a.s a.times.now 0 a.out.now; ring = refl })
 
 pub let_out-made-requires : goal.let_out-made-requires
-let_out-made-requires c = (let known : CanLetOut c.loop-i.m (length c.loop-i.times) (length c.args.pool.now) (length c.loop-i.out) c.loop-i.at = let l = c.loop-i in rw (l.invariant.4.makes.state, l.invariant.3, l.invariant.2) (can_let_out c.args.s c.args.n l.i _ _ _ l.at c.args.moment c.args.times.now c.args.pool.now c.requires c.loop-i-test.true l.invariant.1) in known)
+let_out-made-requires c =
+    let l = c.loop-i in
+    let can : CanLetOut l.m (length l.times) (length c.args.pool.now) (length l.out) l.at =
+    rw (l.invariant.4.makes.state, l.invariant.3, l.invariant.2)
+    (can_let_out c.args.s c.args.n l.i _ _ _ l.at c.args.moment c.args.times.now c.args.pool.now c.requires c.loop-i-test.true l.invariant.1) in
+    can
 
 pub overflow_add-i : goal.overflow_add-i
 overflow_add-i c =
@@ -34,7 +39,10 @@ loop-i-preserved c =
     let f = c.let_out-made in
     let less = c.loop-i-test.true in
     let end = f.ensures.makes.end in
-    let short = let_out_short c.args.moment l.m l.times c.args.pool.now (let known : CanLetOut c.loop-i.m (length c.loop-i.times) (length c.args.pool.now) (length c.loop-i.out) c.loop-i.at = let l = c.loop-i in rw (l.invariant.4.makes.state, l.invariant.3, l.invariant.2) (can_let_out c.args.s c.args.n l.i _ _ _ l.at c.args.moment c.args.times.now c.args.pool.now c.requires c.loop-i-test.true l.invariant.1) in known).sends.size_high in
+    let can : CanLetOut l.m (length l.times) (length c.args.pool.now) (length l.out) l.at =
+    rw (l.invariant.4.makes.state, l.invariant.3, l.invariant.2)
+    (can_let_out c.args.s c.args.n l.i _ _ _ l.at c.args.moment c.args.times.now c.args.pool.now c.requires c.loop-i-test.true l.invariant.1) in
+    let short = let_out_short c.args.moment l.m l.times c.args.pool.now can.sends.size_high in
     let so_far = l.invariant.1 in
     (omega arith, omega arith, f.auto.out ∙ l.invariant.2, f.auto.times ∙ l.invariant.3, rw add-one (hands_then (let_out_appends c.args.moment c.args.pool.now) l.invariant.4 f.ensures))
 
