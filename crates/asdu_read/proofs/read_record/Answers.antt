@@ -32,9 +32,6 @@ with-objects os a = record {
 pub read_header-found-requires : goal.read_header-found-requires
 read_header-found-requires c = tt
 
-pub no_record-requires : goal.no_record-requires
-no_record-requires c = tt
-
 pub returns-in_default : goal.returns-in_default
 unfolding read_asdu
 returns-in_default c =
@@ -66,9 +63,6 @@ object_answer-answer-requires c =
     let is = sym c.read_header-found.ensures ∙ c.in-Header.is in
     let fits = count_fits s h is in
     omega (arith, c.loop-i.invariant.0, fits)
-
-pub no_record-requires-in_default-answer : goal.no_record-requires-in_default-answer
-no_record-requires-in_default-answer c = tt
 
 pub returns-in_default-answer : goal.returns-in_default-answer
 unfolding read_asdu
