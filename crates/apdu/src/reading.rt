@@ -11,6 +11,7 @@ use asdu::{PlainAnswer, checking};
 use elements::refusals::Refusal;
 
 // What is refused of a frame before its control octets: 1, 2, 3, 4.
+#[tactic(auto, unfolding(crate::specs::Reading::outer_refusal))]
 fn outer_refusal(f: &[u8]) -> Refusal
     ensures { result ≡ refusal (outer_refusal f.now) }
 {
@@ -37,6 +38,7 @@ fn number_at(f: &[u8], at: usize) -> u16
 }
 
 // The control octets of a frame without an ASDU: 5, 6, 7.
+#[tactic(auto, unfolding(crate::specs::Reading::short_answer))]
 fn read_short(f: &[u8]) -> FrameAnswer
     ensures { result ≡ short_answer f.now }
 {
@@ -60,6 +62,7 @@ fn read_short(f: &[u8]) -> FrameAnswer
 }
 
 // The control octets of an I frame: 8, then what its ASDU refuses.
+#[tactic(auto, unfolding(crate::specs::Reading::long_answer))]
 fn read_long(f: &[u8]) -> FrameAnswer
     ensures { result ≡ long_answer f.now }
 {
@@ -76,6 +79,7 @@ fn read_long(f: &[u8]) -> FrameAnswer
     FrameAnswer::I(SendNumber(number_at(f, 2)), ReceiveNumber(number_at(f, 4)))
 }
 
+#[tactic(auto, unfolding(crate::specs::Reading::frame_answer))]
 pub fn read_frame(f: &[u8]) -> FrameAnswer
     ensures { result ≡ frame_answer f.now }
 {
@@ -90,6 +94,7 @@ pub fn read_frame(f: &[u8]) -> FrameAnswer
 }
 
 // The ASDU of an I frame, as a part of the frame; empty for S, U and a refused frame.
+#[tactic(auto, unfolding(crate::specs::Reading::asdu_part))]
 pub fn asdu_of(f: &[u8]) -> &[u8]
     ensures { result.now ≡ asdu_part f.now }
 {
@@ -101,6 +106,7 @@ pub fn asdu_of(f: &[u8]) -> &[u8]
 }
 
 // Whether writing a frame's reading gives the same octets.
+#[tactic(auto, unfolding(crate::specs::Plain::plain_frame))]
 pub fn plain_frame(f: &[u8]) -> PlainAnswer
     ensures { result ≡ plain_frame f.now }
 {

@@ -10,6 +10,7 @@ use crate::frame::{ReceiveNumber, SendNumber, UFrame};
 use asdu::{Asdu, WriteAnswer, checking};
 use elements::refusals::Refusal;
 
+#[tactic(auto, unfolding(crate::specs::Writing::number_refusal))]
 fn number_refusal(n: u16) -> Refusal
     ensures { result ≡ refusal (number_refusal n) }
 {

@@ -9,6 +9,7 @@ use elements::refusals::Refusal;
 
 // What is refused of the objects, in time that does not grow with their count:
 // the addresses of a sequence rise, so its last one tells whether all fit.
+#[tactic(auto, unfolding(crate::specs::Reading::addresses_refusal))]
 fn addresses_refusal(s: &[u8], sequence: bool, count: usize) -> Refusal
     ensures { result ≡ refusal (addresses_refusal sequence count s.now) }
 {

@@ -48,6 +48,7 @@ impl HeaderAnswer {
     }
 }
 
+#[tactic(auto, unfolding(crate::specs::Header::cause_listed))]
 pub fn cause_listed(cause: u8) -> bool
     ensures { result ≡ cause_listed cause }
 {
@@ -70,6 +71,7 @@ pub fn cause_listed(cause: u8) -> bool
 }
 
 // From one element to the next: in the plain layout an address stands before each.
+#[tactic(auto, unfolding(crate::specs::Header::step_of))]
 pub fn step_of(kind: Kind, sequence: bool) -> usize
     ensures value { result ≡ step_of kind sequence }
     ensures upper_bound { result ≤ 8 }
@@ -81,6 +83,7 @@ pub fn step_of(kind: Kind, sequence: bool) -> usize
 }
 
 // The octets of an ASDU with n objects.
+#[tactic(auto, unfolding(crate::specs::Header::needed))]
 pub fn needed_len(kind: Kind, sequence: bool, n: u8) -> usize
     ensures value { result ≡ needed kind sequence n }
     ensures upper_bound { result ≤ 2049 }
@@ -92,6 +95,7 @@ pub fn needed_len(kind: Kind, sequence: bool, n: u8) -> usize
     6 + body
 }
 
+#[tactic(auto, unfolding(crate::specs::Header::layout_refusal))]
 fn layout_refusal(kind: Kind, sequence: bool, n: u8, len: usize) -> Refusal
     ensures { result ≡ refusal (layout_refusal kind sequence n len) }
 {
@@ -110,6 +114,7 @@ fn layout_refusal(kind: Kind, sequence: bool, n: u8, len: usize) -> Refusal
     Refusal::NONE
 }
 
+#[tactic(auto, unfolding(crate::specs::Header::header_in))]
 fn header_of(s: &[u8], kind: Kind) -> Header
     ensures { result ≡ header_in kind s.now }
 {
@@ -128,6 +133,7 @@ fn header_of(s: &[u8], kind: Kind) -> Header
 }
 
 // What is refused before the type is known: 17, 9, 10, 9.
+#[tactic(auto, unfolding(crate::specs::Header::early_refusal))]
 fn early_refusal(s: &[u8]) -> Refusal
     ensures { result ≡ refusal (early_refusal s.now) }
 {

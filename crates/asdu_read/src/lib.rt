@@ -12,6 +12,7 @@ use asdu::header::{Header, HeaderAnswer};
 use asdu::{Answer, Asdu, ReadAsdu, checking, header};
 use objects::{Object, ObjectAnswer, values};
 
+#[tactic(auto, unfolding(asdu::specs::Records::blanks, laws::specs::Lists::padded))]
 fn blank_objects() -> [Object; 127]
     ensures { result ≡ blanks }
 {

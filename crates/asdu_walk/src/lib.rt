@@ -89,6 +89,7 @@ fn object_at(asdu: &[u8], place: Place) -> Found
 }
 
 // Before the first object.
+#[tactic(auto, unfolding(crate::specs::Places::start_of))]
 pub fn start(asdu: &[u8]) -> Place
     ensures { result ≡ start_of asdu.now }
 {
@@ -98,6 +99,7 @@ pub fn start(asdu: &[u8]) -> Place
 
 impl Place {
     // No ASDU has an object 255, so the place after it is past the end too.
+    #[tactic(auto, unfolding(crate::specs::Places::after_of))]
     pub fn after(self) -> Place
         ensures { result ≡ after_of self }
     {

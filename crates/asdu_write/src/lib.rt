@@ -14,6 +14,7 @@ use elements::refusals::Refusal;
 use objects::kinds::{Kind, KindAnswer};
 use objects::{Object, kinds, values};
 
+#[tactic(auto, unfolding(asdu::specs::Writing::shape_refusal))]
 fn shape_refusal(kind: Kind, sequence: bool, n: usize) -> Refusal
     ensures { result ≡ refusal (shape_refusal kind sequence n) }
 {
@@ -84,6 +85,7 @@ fn objects_refusal(a: Asdu, kind: Kind) -> Refusal
     later_refusal(a, kind, head.address)
 }
 
+#[tactic(auto, unfolding(asdu::specs::Writing::size_refusal))]
 fn size_refusal(n: usize, room: usize) -> Refusal
     ensures { result ≡ refusal (size_refusal n room) }
 {
@@ -112,6 +114,7 @@ fn refusal_by(a: Asdu, kind: Kind, room: usize) -> Refusal
 }
 
 // What writing into an output of `room` octets refuses.
+#[tactic(auto, unfolding(asdu::specs::Writing::write_refusal, asdu::specs::Writing::write_refusal_by))]
 pub fn write_refusal(a: Asdu, room: usize) -> Refusal
     ensures { result ≡ refusal (write_refusal a room) }
 {

@@ -36,6 +36,7 @@ fn from_chunk(answer: StartAnswer) -> PickAnswer
 }
 
 // Names where the next frame is, without the part.
+#[tactic(auto, unfolding(crate::specs::Picking::pick_answer))]
 pub fn which(carry: &[u8], held: usize, chunk: &[u8]) -> PickAnswer
     ensures { result ≡ pick_answer carry.now held chunk.now }
 {
@@ -50,6 +51,7 @@ pub fn which(carry: &[u8], held: usize, chunk: &[u8]) -> PickAnswer
 }
 
 // The next frame as a part of the carry or of the chunk; empty where more is needed and for a refusal.
+#[tactic(auto, unfolding(crate::specs::Picking::pick_part))]
 pub fn pick<'a>(carry: &'a [u8], held: usize, chunk: &'a [u8]) -> &'a [u8]
     ensures { result.now ≡ pick_part carry.now held chunk.now }
 {

@@ -38,6 +38,7 @@ pub fn part_to(s: &[u8], n: usize) -> &[u8]
 }
 
 // By the first byte and by L: 2, 3, 1.
+#[tactic(auto, unfolding(crate::specs::Start::start_refusal))]
 pub fn start_refusal(first: u8, length: u8) -> Refusal
     ensures { result ≡ refusal (start_refusal first length) }
 {
@@ -53,6 +54,7 @@ pub fn start_refusal(first: u8, length: u8) -> Refusal
     Refusal::NONE
 }
 
+#[tactic(auto, unfolding(crate::specs::Start::sight))]
 pub fn try_frame(s: &[u8]) -> StartAnswer
     ensures { result ≡ start_answer s.now }
 {
@@ -72,6 +74,7 @@ pub fn try_frame(s: &[u8]) -> StartAnswer
 }
 
 // What is refused of a carry before anything is looked at: 33.
+#[tactic(auto, unfolding(crate::specs::Start::carry_refusal))]
 pub fn carry_refusal(carry: &[u8], held: usize) -> Refusal
     ensures { result ≡ refusal (carry_refusal (length carry.now) held) }
 {

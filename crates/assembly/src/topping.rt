@@ -58,6 +58,7 @@ fn refusal_of(carry: &[u8], held: usize, chunk: &[u8]) -> Refusal
     start::start_refusal(first, on_hand(carry, held, chunk, 1))
 }
 
+#[tactic(auto, unfolding(crate::specs::Topping::moving))]
 fn to_move(carry: &[u8], held: usize, chunk: &[u8]) -> usize
     requires { held ≤ length carry.now }
     ensures { result ≡ moving carry.now held chunk.now }

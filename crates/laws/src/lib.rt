@@ -95,6 +95,7 @@ pub fn put_octet(out: &mut [u8], at: usize, v: u8)
     }
 }
 
+#[tactic(auto, unfolding(crate::specs::Numbers::le_octets))]
 pub fn put_le2(out: &mut [u8], at: usize, n: u16)
     ensures { out.new ≡ sets out.old at (le_octets 2 n) }
 {

@@ -18,6 +18,7 @@ pub const MIN_OUTPUT: usize = 4096;
 // 16 slots of 249 octets.
 pub const MIN_POOL: usize = 3984;
 
+#[tactic(auto, unfolding(crate::specs::Limits::sound_settings))]
 pub(crate) fn sound_settings(s: Settings) -> bool
     ensures { result ≡ sound_settings s }
 {
@@ -36,6 +37,7 @@ pub(crate) fn sound_settings(s: Settings) -> bool
 }
 
 // The clauses on counts, numbers, places and the clock.
+#[tactic(auto, unfolding(crate::specs::Limits::sound_counts))]
 fn sound_counts(s: State) -> bool
     ensures { result ≡ sound_counts s }
 {
@@ -93,6 +95,7 @@ fn sound_deadline(d: Deadline, clock: u64) -> bool
     !d.on | (d.at <= clock + MAX_TIME)
 }
 
+#[tactic(auto, unfolding(crate::specs::Limits::sound_timers))]
 fn sound_timers(t: Timers, clock: u64) -> bool
     requires { clock ≤ 281474976710655 }
     ensures { result ≡ sound_timers t clock }
@@ -113,6 +116,7 @@ fn sound_link(l: Link) -> bool
     sound_times(l) & sound_lengths(s.queue) & sound_timers(s.timers, s.clock)
 }
 
+#[tactic(auto, unfolding(crate::specs::Limits::call_refusal))]
 pub fn check_call(l: Link, output: usize, pool: usize, moment: u64) -> Refusal
     ensures { result ≡ refusal (call_refusal l output pool moment) }
 {

@@ -32,6 +32,7 @@ impl OpenAnswer {
 }
 
 // A link with nothing outstanding, waiting or received.
+#[tactic(auto, unfolding(crate::specs::Opening::fresh_link))]
 fn fresh(settings: Settings, t3: Deadline, clock: u64) -> Link
     ensures { result ≡ fresh_link settings t3 clock }
 {
@@ -70,6 +71,7 @@ fn fresh(settings: Settings, t3: Deadline, clock: u64) -> Link
     }
 }
 
+#[tactic(auto, unfolding(crate::specs::Opening::refused_opening, crate::specs::Opening::blank_link))]
 fn refused(r: Refusal) -> OpenedLink
     ensures { result ≡ refused_opening r.0 }
 {

@@ -19,6 +19,7 @@ pub const TEST_ACT: u16 = 0x43;
 
 pub const TEST_CON: u16 = 0x83;
 
+#[tactic(auto, unfolding(link::specs::Answering::done_step, link::specs::Making::window_full))]
 pub fn accept(m: Made, came: bool) -> Step
     ensures { result ≡ done_step m.state m.end came }
 {
@@ -33,6 +34,7 @@ pub fn accept(m: Made, came: bool) -> Step
     Step { state: s, answer }
 }
 
+#[tactic(auto, unfolding(link::specs::Answering::refused_step))]
 pub fn refuse(s: State, r: Refusal) -> Step
     ensures { result ≡ refused_step s r.0 }
 {
@@ -42,6 +44,7 @@ pub fn refuse(s: State, r: Refusal) -> Step
     }
 }
 
+#[tactic(auto, unfolding(link::specs::Making::shut))]
 pub fn end_link(s: State, reason: Refusal) -> State
     ensures { result ≡ shut reason.0 s }
 {
@@ -124,6 +127,7 @@ pub fn start_t2(s: State, moment: u64) -> State
     m
 }
 
+#[tactic(auto, unfolding(link::specs::Making::freed_of))]
 pub fn free(s: State, places: usize, freed: usize) -> State
     requires { (freed ≤ s.window.held) × (s.window.held ≤ places) × (s.window.first < places) × (places ≤ 32767) }
     ensures { result ≡ freed_of s places freed }
@@ -137,6 +141,7 @@ pub fn free(s: State, places: usize, freed: usize) -> State
 }
 
 // An S frame, unconfirmed count 0, t2 unset.
+#[tactic(auto, unfolding(link::specs::Making::confirmed_of, apdu::specs::Writing::s_octets))]
 pub fn confirm(s: State, out: &mut [u8], at: usize) -> Made
     requires { (at + 6 ≤ length out.old) × (s.receive.next.0 ≤ 32767) }
     ensures value { result ≡ made_of (confirmed_of s) (at + 6) }
@@ -153,6 +158,7 @@ pub fn confirm(s: State, out: &mut [u8], at: usize) -> Made
     Made { state: m, end }
 }
 
+#[tactic(auto, unfolding(link::specs::Making::due))]
 fn must_confirm(s: State, more: bool) -> bool
     ensures { result ≡ due s more }
 {
@@ -174,6 +180,7 @@ pub fn finish(s: State, out: &mut [u8], at: usize, more: bool, moment: u64) -> M
 }
 
 // A test act goes out: one more open, t3 and t1 of U frames set.
+#[tactic(auto, unfolding(link::specs::Making::tested_of))]
 pub fn send_test(s: State, out: &mut [u8], at: usize, moment: u64) -> Made
     requires { (at + 6 ≤ length out.old) × (s.timers.tests ≤ 3) × Timed s moment }
     ensures value { result ≡ made_of (tested_of moment s) (at + 6) }
@@ -202,6 +209,7 @@ pub fn send_test(s: State, out: &mut [u8], at: usize, moment: u64) -> Made
 }
 
 // One more frame is outstanding, and nothing is unconfirmed.
+#[tactic(auto, unfolding(link::specs::Making::sent_of))]
 fn sent(s: State) -> State
     requires { (s.window.held ≤ 32767) × (s.window.next.0 ≤ 32767) }
     ensures { result ≡ sent_of s }

@@ -44,6 +44,7 @@ fn is_due(d: Deadline, moment: u64) -> bool
 }
 
 // t1 of I frames: t1 after the oldest outstanding send time.
+#[tactic(auto, unfolding(link::specs::Events::t1i_due))]
 fn oldest_is_due(s: State, times: &[u64], moment: u64) -> bool
     requires { Aged s times.now }
     ensures { result ≡ t1i_due s times.now moment }
@@ -55,6 +56,7 @@ fn oldest_is_due(s: State, times: &[u64], moment: u64) -> bool
     times[first] + s.settings.t1 <= moment
 }
 
+#[tactic(auto, unfolding(link::specs::Events::tick_refusal, link::specs::Events::too_many))]
 fn tick_refusal(s: State, times: &[u64], moment: u64) -> Refusal
     requires { Aged s times.now }
     ensures { result ≡ refusal (tick_refusal s times.now moment) }

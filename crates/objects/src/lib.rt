@@ -55,6 +55,7 @@ pub fn blank_object() -> Object
 }
 
 // An object with its own address, as the plain layout has it.
+#[tactic(auto, unfolding(crate::specs::Objects::object_of))]
 pub fn read_object(s: &[u8], kind: Kind) -> Object
     ensures { result ≡ object_of kind s.now }
 {
@@ -76,6 +77,7 @@ pub fn put_object(out: &mut [u8], object: Object)
 }
 
 // A read object, or 14 where its address does not fit three octets.
+#[tactic(auto, unfolding(crate::specs::Objects::object_answer))]
 pub fn object_at(address: u32, value: Value) -> ObjectAnswer
     ensures { result ≡ object_answer address value }
 {
@@ -96,6 +98,7 @@ impl ObjectAnswer {
     }
 }
 
+#[tactic(auto, unfolding(crate::specs::Objects::kind_refusal))]
 fn kind_refusal(kind: Kind, value: Value) -> Refusal
     ensures { result ≡ refusal (kind_refusal kind value) }
 {
@@ -105,6 +108,7 @@ fn kind_refusal(kind: Kind, value: Value) -> Refusal
     Refusal::WRONG_KIND
 }
 
+#[tactic(auto, unfolding(crate::specs::Objects::address_refusal))]
 fn address_refusal(sequence: bool, first: u32, index: usize, address: u32) -> Refusal
     ensures { result ≡ refusal (address_refusal sequence first index address) }
 {

@@ -71,6 +71,7 @@ fn i32_in(s: &[u8]) -> i32
 }
 
 // The value of the element that begins a slice; octets past its end count 0.
+#[tactic(auto, unfolding(crate::specs::Elements::element_of))]
 pub fn read_element(s: &[u8], kind: Kind) -> Value
     ensures { result ≡ element_of kind s.now }
 {
@@ -92,6 +93,7 @@ pub fn read_element(s: &[u8], kind: Kind) -> Value
 }
 
 // Refusal 15 of a value with a field that its octet cannot hold.
+#[tactic(auto, unfolding(crate::specs::Elements::value_refusal))]
 pub fn value_refusal(value: Value) -> Refusal
     ensures { result ≡ refusal (value_refusal value) }
 {
@@ -103,6 +105,7 @@ pub fn value_refusal(value: Value) -> Refusal
     }
 }
 
+#[tactic(auto, unfolding(laws::specs::Numbers::le_octets))]
 fn put_bits_and_octet(out: &mut [u8], bits: u32, octet: u8)
     ensures { out.new ≡ sets out.old 0 (le_octets 4 bits ++ (octet ∷ [])) }
 {
@@ -110,6 +113,7 @@ fn put_bits_and_octet(out: &mut [u8], bits: u32, octet: u8)
     laws::put_octet(out, 4, octet);
 }
 
+#[tactic(auto, unfolding(laws::specs::Numbers::le_octets))]
 fn put_i16_and_quality(out: &mut [u8], n: i16, qds: Qds)
     ensures { out.new ≡ sets out.old 0 (le_octets 2 (bits_of 16 n) ++ (qds_octet qds ∷ [])) }
 {
@@ -117,6 +121,7 @@ fn put_i16_and_quality(out: &mut [u8], n: i16, qds: Qds)
     laws::put_octet(out, 2, qds.to_byte());
 }
 
+#[tactic(auto, unfolding(crate::specs::Elements::element_octets))]
 fn put_vti(out: &mut [u8], vti: Vti)
     ensures { out.new ≡ sets out.old 0 (element_octets (Value.MStNa1 vti)) }
 {
@@ -126,6 +131,7 @@ fn put_vti(out: &mut [u8], vti: Vti)
 }
 
 // A value's octets at the start of a slice, as far as it reaches; a field that is refused is written 0.
+#[tactic(auto, unfolding(crate::specs::Elements::element_octets))]
 pub fn put_element(out: &mut [u8], value: Value)
     ensures { out.new ≡ sets out.old 0 (element_octets value) }
 {
