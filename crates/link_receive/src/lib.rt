@@ -54,7 +54,6 @@ fn on_s(
     steps::accept(ended, false)
 }
 
-#[tactic(auto, unfolding(link::specs::Events::received))]
 fn receive_one(s: State) -> State
     requires { (s.receive.next.0 ≤ 32767) × (s.receive.unconfirmed ≤ 32767) }
     ensures { result ≡ received s }

@@ -141,7 +141,6 @@ pub fn free(s: State, places: usize, freed: usize) -> State
 }
 
 // An S frame, unconfirmed count 0, t2 unset.
-#[tactic(auto, unfolding(link::specs::Making::confirmed_of, apdu::specs::Writing::s_octets))]
 pub fn confirm(s: State, out: &mut [u8], at: usize) -> Made
     requires { (at + 6 ≤ length out.old) × (s.receive.next.0 ≤ 32767) }
     ensures value { result ≡ made_of (confirmed_of s) (at + 6) }
@@ -209,7 +208,6 @@ pub fn send_test(s: State, out: &mut [u8], at: usize, moment: u64) -> Made
 }
 
 // One more frame is outstanding, and nothing is unconfirmed.
-#[tactic(auto, unfolding(link::specs::Making::sent_of))]
 fn sent(s: State) -> State
     requires { (s.window.held ≤ 32767) × (s.window.next.0 ≤ 32767) }
     ensures { result ≡ sent_of s }

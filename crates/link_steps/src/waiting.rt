@@ -12,7 +12,6 @@ use link_state::State;
 // Octets of a slot.
 const SLOT: usize = 249;
 
-#[tactic(auto, unfolding(link::specs::Making::queued))]
 pub fn enqueue(s: State, pool: &mut [u8], asdu: &[u8]) -> State
     requires { (s.queue.place ≤ 15) × (s.queue.count ≤ 15) × (length asdu.now ≤ 249) × (3984 ≤ length pool.old) }
     ensures value { result ≡ with_queue s (queued s.queue (length asdu.now)) }
@@ -79,7 +78,6 @@ fn flush(s: State, times: &mut [u64], pool: &[u8], out: &mut [u8], n: usize, mom
     Made { state: m, end: at }
 }
 
-#[tactic(auto, unfolding(link::specs::Making::room))]
 fn room_of(s: State) -> usize
     requires { s.window.held ≤ s.settings.k }
     ensures { result ≡ room s }

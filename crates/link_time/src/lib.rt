@@ -56,7 +56,6 @@ fn oldest_is_due(s: State, times: &[u64], moment: u64) -> bool
     times[first] + s.settings.t1 <= moment
 }
 
-#[tactic(auto, unfolding(link::specs::Events::tick_refusal, link::specs::Events::too_many))]
 fn tick_refusal(s: State, times: &[u64], moment: u64) -> Refusal
     requires { Aged s times.now }
     ensures { result ≡ refusal (tick_refusal s times.now moment) }

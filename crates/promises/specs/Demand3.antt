@@ -28,8 +28,8 @@ pub record Call : Type 0 where
   pub now : ℕ
 
 -- What the link's functions (`link_receive::receive`, `link_send::send`, `link_time::stop`, `test` and `tick`) answer and leave
--- behind. These are the right sides of their contracts: `r ≡ called_of (called ..)`, `now out.exit ≡ sets (now out.entry) 0
--- (wire (called .. .frames))`, and of send `now pool.exit ≡ called .. .pool`. The others only read the pool.
+-- behind. These are the right sides of their contracts: `result ≡ called_of (called ..)`, `out.new ≡ sets out.old 0
+-- (wire (called ..).frames)`, and of send `pool.new ≡ (called ..).pool`. The others only read the pool.
 abbrev pub outcome_of : Call → Link → List ℕ → Outcome
 outcome_of c l pool = called c.event l pool (length c.output) c.now
 
