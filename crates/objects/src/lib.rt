@@ -94,16 +94,12 @@ fn check_kind(kind: Kind, value: Value) -> Result<(), Refusal>
 fn check_address(sequence: bool, first: u32, index: usize, address: u32) -> Result<(), Refusal>
     ensures { result ≡ answer (address_refusal sequence first index address) tt }
 {
-    if MAX_ADDRESS < address {
-        return Err(Refusal::WrongAddress);
+    let follows = first <= address && (address - first) as usize == index;
+    if address <= MAX_ADDRESS && (!sequence || follows) {
+        Ok(())
+    } else {
+        Err(Refusal::WrongAddress)
     }
-    if !sequence {
-        return Ok(());
-    }
-    if first <= address && (address - first) as usize == index {
-        return Ok(());
-    }
-    Err(Refusal::WrongAddress)
 }
 
 // What is refused of object `index` of a record whose first object has the address `first`: 16, 14, 15.
