@@ -2,7 +2,7 @@
 // the order of the constants below. A number past the end of a list reads as 0.
 use apdu::frame::{ReceiveNumber, SendNumber};
 use elements::refusals::Refusal;
-use link_state::{Deadline, Link, Queue, Receive, Settings, State, Status, Timers, Window};
+use link_state::{Link, Queue, Receive, Settings, State, Status, Timers, Window};
 
 const TIMES: usize = 0;
 
@@ -93,16 +93,16 @@ fn mark(cells: &[u64], at: usize) -> bool {
     cell(cells, at) == 1
 }
 
-fn deadline_in(cells: &[u64], at: usize) -> Deadline {
-    Deadline {
-        on: mark(cells, at),
-        at: cell(cells, std::num::wrapping_add_usize(at, 1)),
+fn deadline_in(cells: &[u64], at: usize) -> Option<u64> {
+    if !mark(cells, at) {
+        return None;
     }
+    Some(cell(cells, std::num::wrapping_add_usize(at, 1)))
 }
 
-fn put_deadline(cells: &mut [u64], at: usize, d: Deadline) {
-    put_mark(cells, at, d.on);
-    put_cell(cells, std::num::wrapping_add_usize(at, 1), d.at);
+fn put_deadline(cells: &mut [u64], at: usize, d: Option<u64>) {
+    put_mark(cells, at, d.is_some());
+    put_cell(cells, std::num::wrapping_add_usize(at, 1), d.unwrap_or(0));
 }
 
 pub fn settings_in(cells: &[u64]) -> Settings {

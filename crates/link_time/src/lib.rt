@@ -11,7 +11,7 @@ ghost use Rattle.link.specs.Answering.{Answers, Makes, Calm, Aged, called_of};
 use apdu::writing;
 use elements::refusals::Refusal;
 use link::answers::{Called, Made, Step};
-use link_state::{Deadline, Link, State, limits};
+use link_state::{Link, State, limits};
 use link_steps::steps;
 
 fn on_stop(s: State, out: &mut [u8], moment: u64) -> Step
@@ -37,10 +37,10 @@ fn on_test(s: State, out: &mut [u8], moment: u64) -> Step
     steps::accept(ended, false)
 }
 
-fn is_due(d: Deadline, moment: u64) -> bool
+fn is_due(d: Option<u64>, moment: u64) -> bool
     ensures { result ≡ is_due d moment }
 {
-    d.on & (d.at <= moment)
+    d.is_some_and(|at| at <= moment)
 }
 
 // t1 of I frames: t1 after the oldest outstanding send time.
@@ -52,8 +52,7 @@ fn oldest_is_due(s: State, times: &[u64], moment: u64) -> bool
     if s.window.held == 0 {
         return false;
     }
-    let first = s.window.first;
-    times[first] + s.settings.t1 <= moment
+    times[s.window.first] + s.settings.t1 <= moment
 }
 
 fn tick_refusal(s: State, times: &[u64], moment: u64) -> Refusal
@@ -84,7 +83,7 @@ fn tick_t2(s: State, out: &mut [u8], moment: u64) -> Made
 }
 
 // Then t3 due acts as Test.
-fn tick_t3(m: Made, t3: Deadline, out: &mut [u8], moment: u64) -> Made
+fn tick_t3(m: Made, t3: Option<u64>, out: &mut [u8], moment: u64) -> Made
     requires { Calm m.state (length out.old) moment × (m.end ≤ 6) }
     ensures { (ts : List ℕ) → Makes (ticked_t3 t3 moment (start m.state ts)) m.end out.old result out.new }
 {
