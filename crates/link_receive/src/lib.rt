@@ -13,7 +13,7 @@ use apdu::{reading, writing};
 use elements::refusals::Refusal;
 use link::answers::{Called, Made, Step};
 use link_state::acknowledging::AckAnswer;
-use link_state::{Link, State, acknowledging, limits};
+use link_state::{Link, State, acknowledging};
 use link_steps::{steps, waiting};
 
 // The oldest frames are confirmed, and what waits goes out as far as the window takes it.
@@ -179,11 +179,7 @@ pub fn receive(l: Link, pool: &[u8], out: &mut [u8], f: &[u8], more: bool, momen
     ensures value { result ≡ called_of (called (frame f.now more) l pool.now (length out.old) moment) }
     ensures out_after { out.new ≡ sets out.old 0 (wire (called (frame f.now more) l pool.now (length out.old) moment).frames) }
 {
-    let refused = limits::check_call(l, out.len(), pool.len(), moment);
-    if !refused.is_none() {
-        return steps::refuse_call(l, refused);
-    }
-    let mut times = l.times;
-    let step = on_frame(l.state, &mut times, pool, out, f, more, moment);
-    steps::end_call(times, step)
+    steps::call(l, pool.len(), out, moment, |s, times, out| {
+        on_frame(s, times, pool, out, f, more, moment)
+    })
 }

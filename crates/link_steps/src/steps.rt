@@ -4,13 +4,14 @@ ghost use Rattle.std.proofs.lemmas.List.Edits.{sets};
 ghost use Rattle.apdu.specs.Writing.{start_octets, s_octets};
 ghost use Rattle.link.specs.Making.{freed_of, sent_of, confirmed_of, due, tested_of, ending, set_t1u, set_t3, start_t2, shut, hand_out};
 ghost use Rattle.link.specs.Events.{start};
-ghost use Rattle.link.specs.Answering.{made_of, done_step, refused_step, refused_call, call_of, Makes, HandsOut, Timed, CanSend};
+ghost use Rattle.link_state.specs.Limits.{call_refusal};
+ghost use Rattle.link.specs.Answering.{CanRun, Ran, Comes, made_of, done_step, refused_step, refused_call, call_of, Makes, HandsOut, Timed, CanSend};
 
 use apdu::frame::SendNumber;
 use apdu::writing;
 use elements::refusals::Refusal;
 use link::answers::{Called, Done, LinkAnswer, Made, Step};
-use link_state::{Link, Receive, State, Status, Window};
+use link_state::{Link, Receive, State, Status, Window, limits};
 
 pub const STOP_ACT: u16 = 0x13;
 
@@ -82,6 +83,27 @@ pub fn end_call(times: [u64; 32], step: Step) -> Called
     let answer = step.answer;
     let link = Link { times, state };
     Called { link, answer }
+}
+
+// A call whose pool is only read: its check, then the event on a copy of the ring. `send` writes the pool too, so it has a
+// body of its own: nothing is known of what a closure captured and wrote.
+pub fn call<F: FnOnce(State, &mut [u64], &mut [u8]) -> Step>(
+    l: Link,
+    pool: usize,
+    out: &mut [u8],
+    moment: u64,
+    event: F,
+) -> Called
+    requires { call_refusal l (length out.old) pool moment ≡ 0 → CanRun F.FnOnce event l.state l.times out.old }
+    ensures { Comes (call_refusal l (length out.old) pool moment) l (Ran F.FnOnce event l.state l.times out.old) out.old result out.new }
+{
+    let refused = limits::check_call(l, out.len(), pool, moment);
+    if !refused.is_none() {
+        return refuse_call(l, refused);
+    }
+    let mut times = l.times;
+    let step = event(l.state, &mut times, out);
+    end_call(times, step)
 }
 
 pub fn set_t1u(mut s: State, moment: u64) -> State

@@ -11,7 +11,7 @@ ghost use Rattle.link.specs.Answering.{Answers, Makes, Calm, Aged, called_of};
 use apdu::writing;
 use elements::refusals::Refusal;
 use link::answers::{Called, Made, Step};
-use link_state::{Link, State, limits};
+use link_state::{Link, State};
 use link_steps::steps;
 
 fn on_stop(s: State, out: &mut [u8], moment: u64) -> Step
@@ -111,37 +111,25 @@ pub fn stop(l: Link, pool: &[u8], out: &mut [u8], moment: u64) -> Called
     ensures value { result ≡ called_of (called stop l pool.now (length out.old) moment) }
     ensures out_after { out.new ≡ sets out.old 0 (wire (called stop l pool.now (length out.old) moment).frames) }
 {
-    let refused = limits::check_call(l, out.len(), pool.len(), moment);
-    if !refused.is_none() {
-        return steps::refuse_call(l, refused);
-    }
-    let times = l.times;
-    let step = on_stop(l.state, out, moment);
-    steps::end_call(times, step)
+    steps::call(l, pool.len(), out, moment, |s, _, out| {
+        on_stop(s, out, moment)
+    })
 }
 
 pub fn test(l: Link, pool: &[u8], out: &mut [u8], moment: u64) -> Called
     ensures value { result ≡ called_of (called test l pool.now (length out.old) moment) }
     ensures out_after { out.new ≡ sets out.old 0 (wire (called test l pool.now (length out.old) moment).frames) }
 {
-    let refused = limits::check_call(l, out.len(), pool.len(), moment);
-    if !refused.is_none() {
-        return steps::refuse_call(l, refused);
-    }
-    let times = l.times;
-    let step = on_test(l.state, out, moment);
-    steps::end_call(times, step)
+    steps::call(l, pool.len(), out, moment, |s, _, out| {
+        on_test(s, out, moment)
+    })
 }
 
 pub fn tick(l: Link, pool: &[u8], out: &mut [u8], moment: u64) -> Called
     ensures value { result ≡ called_of (called tick l pool.now (length out.old) moment) }
     ensures out_after { out.new ≡ sets out.old 0 (wire (called tick l pool.now (length out.old) moment).frames) }
 {
-    let refused = limits::check_call(l, out.len(), pool.len(), moment);
-    if !refused.is_none() {
-        return steps::refuse_call(l, refused);
-    }
-    let times = l.times;
-    let step = on_tick(l.state, &times, out, moment);
-    steps::end_call(times, step)
+    steps::call(l, pool.len(), out, moment, |s, times, out| {
+        on_tick(s, times, out, moment)
+    })
 }
