@@ -112,8 +112,7 @@ impl<C: InCells, const N: usize> InCells for [C; N] {
     }
 }
 
-// Whether it is set, and when it is due.
-// A deadline takes two: whether it is set, and when it is due.
+// A deadline takes two: whether it is set, and when it is due, 0 where it is not.
 impl InCells for Option<u64> {
     fn put(self, cells: &mut &mut [u64]) {
         self.is_some().put(cells);
@@ -123,7 +122,7 @@ impl InCells for Option<u64> {
     fn take(cells: &mut &[u64]) -> Option<u64> {
         let set = bool::take(cells);
         let at = u64::take(cells);
-        if set { Some(at) } else { None }
+        set.then_some(at)
     }
 }
 
