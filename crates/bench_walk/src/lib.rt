@@ -5,7 +5,7 @@
 use apdu::reading;
 use asdu::header::MAX_OBJECTS;
 use asdu_walk::Found;
-use elements::numbers;
+use elements::numbers::Signed;
 use objects::Object;
 use objects::values::Value;
 use std::num::wrapping_add_u32;
@@ -15,7 +15,7 @@ fn weight(object: Object) -> u32 {
     let value = object.value;
     match value {
         Value::MItNa1(n, seq_qd) => {
-            let counted = wrapping_add_u32(numbers::bits32(n), laws::wide(seq_qd.seq));
+            let counted = wrapping_add_u32(n.to_bits(), laws::wide(seq_qd.seq));
             wrapping_add_u32(object.address, counted)
         }
         _ => object.address,

@@ -2,7 +2,7 @@
 // like their octets on the wire.
 ghost use Rattle.std.specs.Prelude.{◌<◌};
 
-use elements::numbers;
+use elements::numbers::Signed;
 
 pub fn number16(octets: &[u8]) -> u32
     ensures { result < 65536 }
@@ -29,7 +29,7 @@ pub fn put_number32(octets: &mut [u8], at: u8, n: u32) {
 }
 
 pub fn raised8(value: i8) -> u8 {
-    let bits = numbers::bits8(value);
+    let bits = value.to_bits();
     if bits < 0x80 {
         return bits + 0x80;
     }
@@ -37,7 +37,7 @@ pub fn raised8(value: i8) -> u8 {
 }
 
 pub fn raised16(value: i16) -> u32 {
-    let bits = numbers::bits16(value) as u32;
+    let bits = value.to_bits() as u32;
     if bits < 0x8000 {
         return bits + 0x8000;
     }
@@ -45,7 +45,7 @@ pub fn raised16(value: i16) -> u32 {
 }
 
 pub fn raised32(value: i32) -> u32 {
-    let bits = numbers::bits32(value);
+    let bits = value.to_bits();
     if bits < 0x80000000 {
         return bits + 0x80000000;
     }
