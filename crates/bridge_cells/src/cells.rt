@@ -274,8 +274,3 @@ pub fn link_in(cells: &[u64]) -> Link {
     let mut rest = cells;
     Link::take(&mut rest)
 }
-
-pub fn put_link(cells: &mut [u64], link: Link) {
-    let mut rest = cells;
-    link.put(&mut rest);
-}
