@@ -15,11 +15,11 @@ use Rattle.apdu.specs.Reading.{outer_refusal, short_answer, long_answer, frame_a
 use Rattle.apdu.specs.Plain.{plain_frame}
 use Rattle.elements.specs.Refusals.{refusal}
 use Rattle.link_state.specs.Acknowledging.{confirms, numbers_in_limits, ack_refusal, acknowledged}
-use Rattle.link_state.specs.declared.acknowledging.AckAnswer.TheVariants as AckAnswer
 use Rattle.promises.specs.Cases.{answer, marked, MarkedCases}
+use Rattle.std.specs.Prelude.{Err}
 
 -- with none outstanding every number but the next is refused
-only_none : (r : ℕ) → r ≤ 32767 → (r ≡ 0 → ⊥) → answer 32768 32768 r ≡ AckAnswer.Refused (refusal 27)
+only_none : (r : ℕ) → r ≤ 32767 → (r ≡ 0 → ⊥) → answer 32768 32768 r ≡ Err (refusal 27)
 unfolding acknowledged ack_refusal numbers_in_limits confirms
 only_none r h some =
     let e : (r + 32768 - 0) % 32768 ≡ r = omega arith in
