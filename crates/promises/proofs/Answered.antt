@@ -37,20 +37,20 @@ reading : (s : List ℕ) → answer_number (read_asdu s).answer ≡ read_refusal
 unfolding read_asdu
 reading s = answer_numbered (read_refusal s) tt (read_high s)
 
+refused_number : (s : List ℕ) → eqb (read_refusal s) 0 ≡ false → answer_number (plain_by (checked_header s) s) ≡ read_refusal s
+unfolding checked_header
+refused_number s e = let some = eqb-false (read_refusal s) 0 e in rw e (number_of_refusal (read_refusal s) (omega (arith, some)) (read_high s))
+
 telling : (s : List ℕ) → answer_number (plain_answer s) ≡ read_refusal s
 unfolding plain_answer
 telling s = by (eqb (read_refusal s) 0) refl
   where
-    refused : eqb (read_refusal s) 0 ≡ false → answer_number (plain_by (checked_header s) s) ≡ read_refusal s
-    unfolding checked_header
-    refused e = let some = eqb-false (read_refusal s) 0 e in rw e (number_of_refusal (read_refusal s) (omega (arith, some)) (read_high s))
-
     by : (t : Bool) → eqb (read_refusal s) 0 ≡ t → answer_number (plain_by (checked_header s) s) ≡ read_refusal s
     by true e =
         let none = eqb-true (read_refusal s) 0 e in
         let (k, c) = accepted s none in
         rw (checked_is s (header_in k s) (header_taken k s c.headed) c.none) (sym none)
-    by false e = refused e
+    by false e = refused_number s e
 
 writing : (a : Asdu) (room : ℕ) → answer_number (write_answer a room) ≡ write_refusal a room
 unfolding write_answer

@@ -38,7 +38,7 @@ found o = Ok (Some o)
 refused_on : (s : List ℕ) (r : Refusal) (i n : ℕ) → place_steps s (record { answer = Err r; index = i }) n ≡ replicate n (Err r)
 unfolding found_at after_of
 refused_on s r i zero = refl
-refused_on s r i (suc n) = ap (λ (l : List Found). Err r ∷ l) (refused_on s r _ n)
+refused_on s r i (suc n) = ap (λ (l : List Found). Err r ∷ l) (refused_on s r (pick (eqb i 255) 255 (i + 1)) n)
 
 refuses_plain : (s : List ℕ) (n : ℕ) → (read_refusal s ≡ 0 → ⊥) → place_steps s (start_of s) n ≡ refusing s n
 unfolding start_of
