@@ -26,8 +26,9 @@ use Rattle.asdu.proofs.Checked.{checked_is}
 use Rattle.promises.specs.Asdus.{AnswerNumbers}
 use Rattle.promises.proofs.Bodies.{accepted, header_taken}
 use Rattle.promises.proofs.Ranges.{read_most, write_most}
-use Rattle.std.specs.Prelude.{Option, Some, None, Ok, Err}
+use Rattle.std.specs.Prelude.{Option, Some, None, Result, Ok, Err}
 use Rattle.elements.specs.Refusals.{answer_number}
+use Rattle.elements.specs.declared.refusals.Refusal.{Refusal}
 
 -- reading refuses with 17 at most
 read_high : (s : List ℕ) → read_refusal s ≤ 33
