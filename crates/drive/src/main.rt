@@ -22,33 +22,51 @@
 // and have 64 bits. Any other line is `bad`.
 #![tactic(auto)]
 
-use arrayvec::ArrayVec;
 use drive_link::Station;
 use std::io;
 use std::io::Read;
 use test_text::LINE_SIZE;
 use test_text::wrong::Wrong;
 
-// A line that fills it is too long.
-const TOO_LONG: usize = LINE_SIZE + 1;
+// The bytes of a line that have come.
+#[derive(Drop)]
+struct Line {
+    bytes: [u8; LINE_SIZE],
+    len: usize,
+}
 
-// The part of a line that has come, and the link.
+impl Line {
+    fn new() -> Line {
+        Line {
+            bytes: [0; LINE_SIZE],
+            len: 0,
+        }
+    }
+
+    // A byte that there is no room for counts.
+    fn push(&mut self, byte: u8) {
+        if let Some(place) = self.bytes.get_mut(self.len) {
+            *place = byte;
+        }
+        self.len = self.len.saturating_add(1);
+    }
+
+    // None where it is too long, or no text.
+    fn text(&self) -> Option<&str> {
+        str::from_utf8(self.bytes.get(..self.len)?).ok()
+    }
+}
+
 #[derive(Drop)]
 struct Bench {
-    line: ArrayVec<u8, TOO_LONG>,
+    line: Line,
     station: Station,
 }
 
 impl Bench {
     // A command and what it is given, with one space between.
     fn run(&mut self, rt: &impl Print) -> Result<(), Wrong> {
-        let bytes = self.line.as_slice();
-        if bytes.len() == TOO_LONG {
-            return Err(Wrong::Bad);
-        }
-        let Ok(text) = str::from_utf8(bytes) else {
-            return Err(Wrong::Bad);
-        };
+        let text = self.line.text().ok_or(Wrong::Bad)?;
         let (name, given) = text.split_once(' ').unwrap_or((text, ""));
         match name {
             "open" => self.station.open(rt, given),
@@ -65,7 +83,7 @@ impl Bench {
 
     fn answer(&mut self, rt: &impl Print) -> io::Result<()> {
         let ended = self.run(rt);
-        self.line.clear();
+        self.line.len = 0;
         match ended {
             Ok(()) => Ok(()),
             Err(Wrong::Bad) => println!(rt; "bad"),
@@ -79,14 +97,14 @@ impl Bench {
         if byte == b'\n' {
             return self.answer(rt);
         }
-        let _ = self.line.try_push(byte);
+        self.line.push(byte);
         Ok(())
     }
 }
 
 fn main(rt: HostRuntime) -> io::Result<()> {
     let mut bench = Bench {
-        line: ArrayVec::new(),
+        line: Line::new(),
         station: Station::new(),
     };
     let mut commands = rt.stdin();
@@ -101,7 +119,7 @@ fn main(rt: HostRuntime) -> io::Result<()> {
             bench.take(&rt, *byte)?;
         }
     }
-    if !bench.line.is_empty() {
+    if bench.line.len > 0 {
         bench.answer(&rt)?;
     }
     Ok(())

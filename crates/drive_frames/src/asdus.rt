@@ -16,7 +16,11 @@ impl<'a> fmt::Display for Record<'a> {
         let test = u8::from(asdu.test);
         let negative = u8::from(asdu.negative);
         write!(f, "{} {sequence} {test} {negative}", asdu.type_id)?;
-        write!(f, " {} {} {} {}", asdu.cause, asdu.originator, asdu.address, asdu.count)?;
+        write!(
+            f,
+            " {} {} {} {}",
+            asdu.cause, asdu.originator, asdu.address, asdu.count
+        )?;
         for object in asdu.objects.iter().take(asdu.count) {
             write!(f, "{}", Shown(*object))?;
         }

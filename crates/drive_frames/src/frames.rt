@@ -11,7 +11,12 @@ const MAX_SIZE: usize = 255;
 pub fn show(rt: &impl Print, given: &[u8]) -> Result<(), Wrong> {
     match reading::read_frame(given) {
         FrameAnswer::I(send, receive) => {
-            println!(rt; "I {} {} {}", send.0, receive.0, Hex(reading::asdu_of(given)))?;
+            println!(rt;
+                "I {} {} {}",
+                send.0,
+                receive.0,
+                Hex(reading::asdu_of(given))
+            )?;
         }
         FrameAnswer::S(receive) => println!(rt; "S {}", receive.0)?,
         FrameAnswer::U(u) => println!(rt; "U {:02x}", u.to_byte())?,

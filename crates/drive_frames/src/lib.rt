@@ -6,9 +6,8 @@ mod frames;
 
 use apdu::reading;
 use asdu::PlainAnswer;
-use test_text::OCTETS_SIZE;
-use test_text::octets;
 use test_text::wrong::Wrong;
+use test_text::{OCTETS_SIZE, octets};
 
 fn show_form(rt: &impl Print, answer: PlainAnswer) -> Result<(), Wrong> {
     match answer {

@@ -38,10 +38,24 @@ impl<'a> fmt::Display for Told<'a> {
         let done = self.done();
         let written = done.written.min(self.out.len());
         write!(f, "{} {}", self.number(), Hex(&self.out[..written]))?;
-        write!(f, " full={} came={}", u8::from(done.full), u8::from(done.came))?;
+        write!(
+            f,
+            " full={} came={}",
+            u8::from(done.full),
+            u8::from(done.came)
+        )?;
         let state = self.called.link.state;
-        write!(f, " held={} waiting={}", state.window.held, state.queue.count)?;
+        write!(
+            f,
+            " held={} waiting={}",
+            state.window.held, state.queue.count
+        )?;
         let status = state.status;
-        write!(f, " closed={} reason={}", u8::from(status.closed), status.reason.0)
+        write!(
+            f,
+            " closed={} reason={}",
+            u8::from(status.closed),
+            status.reason.0
+        )
     }
 }

@@ -4,15 +4,18 @@
 use assembly::picking::PickAnswer;
 use assembly::topping::TopUpAnswer;
 use assembly::{picking, topping};
-use test_text::OCTETS_SIZE;
-use test_text::octets;
 use test_text::wrong::Wrong;
+use test_text::{OCTETS_SIZE, octets};
 
 const CARRY_SIZE: usize = 255;
 
 // Two texts with one space between: what the carry holds, and the chunk. The carry's room is larger than the carry: what is
 // held past its end counts, but is not there.
-fn take<'a>(given: &str, carry: &mut [u8; OCTETS_SIZE], room: &'a mut [u8]) -> Option<(usize, &'a [u8])> {
+fn take<'a>(
+    given: &str,
+    carry: &mut [u8; OCTETS_SIZE],
+    room: &'a mut [u8],
+) -> Option<(usize, &'a [u8])> {
     let (first, second) = given.split_once(' ')?;
     let held = octets::take(first, carry)?.len();
     Some((held, octets::take(second, room)?))

@@ -86,7 +86,12 @@ impl fmt::Display for Fields<Vti> {
     fn fmt<W: fmt::Write>(&self, f: &mut fmt::Formatter<W>) -> fmt::Result {
         let vti = self.0;
         let transient = u8::from(vti.transient);
-        write!(f, "value={},transient={transient},{}", vti.value, Fields(vti.qds))
+        write!(
+            f,
+            "value={},transient={transient},{}",
+            vti.value,
+            Fields(vti.qds)
+        )
     }
 }
 
