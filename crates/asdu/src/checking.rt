@@ -20,7 +20,7 @@ fn addresses_refusal(s: &[u8], sequence: bool, count: usize) -> Refusal
     if 16777216 < count {
         return Refusal::WRONG_ADDRESS;
     }
-    if laws::le3(s, 6) + (count as u32) <= 16777216 {
+    if laws::le::<3>(s, 6) + (count as u32) <= 16777216 {
         return Refusal::NONE;
     }
     Refusal::WRONG_ADDRESS
