@@ -1,17 +1,23 @@
 -- What is known of octets that reading does not refuse, and what each answer of the plain form shows. Assumes nothing.
 use Prim.Native.Nat.{ℕ, ◌≤◌}
-use mathlib.Core.Path.{◌≡◌}
-use mathlib.Core.Bool.{not}
+use mathlib.Core.Path.{◌≡◌, refl}
+use mathlib.Core.Bool.{Bool, true, false, not}
 use mathlib.Core.List.{List}
-use lib.ListN.{length}
-use lib.Dec.{ltb}
-use borrow.Author.Tests.{ltb-false}
-use Rattle.std.specs.Prelude.{Ok}
+use native.Mathlib.Omega.{arith}
+use lib.ListN.{length, get_or}
+use lib.Dec.{eqb, ltb}
+use borrow.Author.Tests.{ltb-false, eqb-true}
+use Rattle.std.specs.Prelude.{Result, Ok, Err}
+use Rattle.laws.specs.Choice.{pick}
+use Rattle.objects.specs.Kinds.{kind_of}
+use Rattle.asdu.specs.declared.Form.{Form}
 use Rattle.laws.proofs.Choices.{passed, both}
-use Rattle.elements.proofs.Refused.{made_some}
-use Rattle.asdu.specs.Header.{cause_listed, cause_in, early_refusal, header_refusal}
-use Rattle.asdu.specs.Reading.{read_refusal}
-use Rattle.asdu.specs.Plain.{plain_answer}
+use Rattle.elements.specs.Refusals.{refusal}
+use Rattle.elements.specs.declared.refusals.Refusal.{Refusal}
+use Rattle.asdu.specs.declared.header.Header.{Header}
+use Rattle.asdu.specs.Header.{cause_listed, cause_in, early_refusal, header_refusal, header_by}
+use Rattle.asdu.specs.Reading.{read_refusal, checked_header}
+use Rattle.asdu.specs.Plain.{plain_by, plain_answer}
 use Rattle.asdu.specs.declared.Form.TheVariants.{Plain}
 
 -- ---- reading
@@ -33,8 +39,12 @@ read_sized s h = start_sized s (both (early_refusal s) _ (both (header_refusal s
 
 module _ (s : List ℕ) where
   pub plain_reads : plain_answer s ≡ Ok Plain → read_refusal s ≡ 0
-  unfolding plain_answer
-  plain_reads e = made_some (read_refusal s) _ _ e
+  unfolding plain_answer checked_header
+  plain_reads e = by (eqb (read_refusal s) 0) refl e
+    where
+      by : (t : Bool) → eqb (read_refusal s) 0 ≡ t → plain_by (pick {A = Result Header Refusal} t (header_by (kind_of (get_or s 0 0)) s) (Err (refusal (read_refusal s)))) s ≡ Ok Plain → read_refusal s ≡ 0
+      by true f g = eqb-true _ _ f
+      by false f g = let z : ◌≡◌ {A = ℕ} 0 1 = cc in absurd (omega arith)
 
   pub plain_sized : plain_answer s ≡ Ok Plain → (6 ≤ length s) × (length s ≤ 249)
   plain_sized e = read_sized s (plain_reads e)

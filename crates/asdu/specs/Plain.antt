@@ -1,14 +1,13 @@
 -- Plain form: no octet has a reserved bit set. `promises` shows that this is "writing its reading gives the same octets".
-use Rattle.std.specs.Prelude.{ℕ, ◌+◌, ◌*◌, Bool, true, false, ◌&&◌, ◌||◌, not, List, [], ◌∷◌, get_or, drop, eqb, Option, Some, None, Result}
+use Rattle.std.specs.Prelude.{ℕ, ◌+◌, ◌*◌, Bool, true, false, ◌&&◌, ◌||◌, not, List, [], ◌∷◌, get_or, drop, eqb, Result, Ok, Err}
 use Rattle.laws.specs.Bits.{Layout, kept, reserved}
 use Rattle.laws.specs.Choice.{pick}
 use Rattle.laws.specs.Lists.{every}
-use Rattle.elements.specs.Refusals.{answer}
 use Rattle.elements.specs.declared.refusals.Refusal.{Refusal}
-use Rattle.objects.specs.Kinds.{kind_of, form_of}
+use Rattle.objects.specs.Kinds.{form_of}
 use Rattle.objects.specs.declared.kinds.Kind.{Kind}
-use Rattle.asdu.specs.Header.{step_of, header_in}
-use Rattle.asdu.specs.Reading.{read_refusal}
+use Rattle.asdu.specs.Header.{step_of}
+use Rattle.asdu.specs.Reading.{checked_header}
 use Rattle.asdu.specs.declared.header.Header.{Header}
 use Rattle.asdu.specs.declared.Form.{Form}
 use Rattle.asdu.specs.declared.Form.TheVariants.{Plain, Reserved}
@@ -34,11 +33,10 @@ plain_element h s i = plain_form (form_of h.kind) (drop (9 + i * step_of h.kind 
 unfoldable pub plain_objects : Header → List ℕ → Bool
 plain_objects h s = every (plain_element h s) h.count
 
--- by the kind of the type
-abbrev pub plain_by : Option Kind → List ℕ → Bool
-plain_by None s = false
-plain_by (Some k) s = plain_objects (header_in k s) s
-
 -- plain, or with reserved bits set, or the reading's refusal
+abbrev pub plain_by : Result Header Refusal → List ℕ → Result Form Refusal
+plain_by (Ok h) s = Ok (pick (plain_objects h s) Plain Reserved)
+plain_by (Err r) s = Err r
+
 unfoldable pub plain_answer : List ℕ → Result Form Refusal
-plain_answer s = answer (read_refusal s) (pick (plain_by (kind_of (get_or s 0 0)) s) Plain Reserved)
+plain_answer s = plain_by (checked_header s) s

@@ -1,16 +1,16 @@
 -- What reading an ASDU answers: the header's refusal, then the objects' by index; else the record.
-use Rattle.std.specs.Prelude.{ℕ, zero, suc, ◌+◌, ◌*◌, Bool, true, false, ◌&&◌, List, get_or, drop, eqb, ltb, Option, Some, None, Result}
+use Rattle.std.specs.Prelude.{ℕ, zero, suc, ◌+◌, ◌*◌, Bool, true, false, ◌&&◌, List, get_or, drop, eqb, ltb, Option, Some, None, Result, Ok, Err}
 use Rattle.laws.specs.Choice.{pick, ◌then◌}
 use Rattle.laws.specs.Lists.{tabulate}
 use Rattle.laws.specs.Numbers.{le_of}
-use Rattle.elements.specs.Refusals.{wrong_address, answer, answer_number}
+use Rattle.elements.specs.Refusals.{refusal, wrong_address, answer, answer_number}
 use Rattle.elements.specs.declared.refusals.Refusal.{Refusal}
 use Rattle.objects.specs.Kinds.{kind_of}
 use Rattle.objects.specs.Elements.{element_of}
 use Rattle.objects.specs.Objects.{object_of, object_answer}
 use Rattle.objects.specs.declared.kinds.Kind.{Kind}
 use Rattle.objects.specs.declared.Object.{Object}
-use Rattle.asdu.specs.Header.{step_of, header_refusal, header_in}
+use Rattle.asdu.specs.Header.{step_of, header_refusal, header_in, header_by}
 use Rattle.asdu.specs.Records.{filled, asdu_of, no_asdu}
 use Rattle.asdu.specs.declared.header.Header.{Header}
 use Rattle.asdu.specs.declared.Asdu.{Asdu}
@@ -56,14 +56,14 @@ objects_refusal_by (Some k) s = objects_refusal (header_in k s) s
 unfoldable pub read_refusal : List ℕ → ℕ
 read_refusal s = header_refusal s then objects_refusal_by (kind_of (get_or s 0 0)) s
 
--- the record, by the kind of the type
-abbrev pub record_by : Option Kind → List ℕ → Asdu
-record_by None s = no_asdu
-record_by (Some k) s = asdu_of (header_in k s) (filled (objects_in (header_in k s) s))
+-- the header of octets that reading accepts, else what reading refuses
+unfoldable pub checked_header : List ℕ → Result Header Refusal
+checked_header s = pick (eqb (read_refusal s) 0) (header_by (kind_of (get_or s 0 0)) s) (Err (refusal (read_refusal s)))
 
 -- the record, or all 0 and clear beside a refusal
+abbrev pub record_by : Result Header Refusal → List ℕ → Asdu
+record_by (Ok h) s = asdu_of h (filled (objects_in h s))
+record_by (Err r) s = no_asdu
+
 unfoldable pub read_asdu : List ℕ → ReadAsdu
-read_asdu s = record {
-  asdu = pick (eqb (read_refusal s) 0) (record_by (kind_of (get_or s 0 0)) s) no_asdu;
-  answer = answer (read_refusal s) tt;
-}
+read_asdu s = record { asdu = record_by (checked_header s) s; answer = answer (read_refusal s) tt }

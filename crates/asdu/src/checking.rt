@@ -1,7 +1,7 @@
 // Checking an ASDU: what reading refuses, with no record built.
-ghost use Rattle.std.specs.Prelude.{◌≡◌};
+ghost use Rattle.std.specs.Prelude.{◌≡◌, ◌≤◌, IfOk};
 ghost use Rattle.elements.specs.Refusals.{answer};
-ghost use Rattle.asdu.specs.Reading.{objects_refusal, addresses_refusal, read_refusal};
+ghost use Rattle.asdu.specs.Reading.{objects_refusal, addresses_refusal, read_refusal, checked_header};
 
 use crate::header;
 use crate::header::Header;
@@ -20,7 +20,7 @@ fn check_addresses(s: &[u8], sequence: bool, count: usize) -> Result<(), Refusal
     if 16777216 < count {
         return Err(Refusal::WrongAddress);
     }
-    if laws::le3(s, 6) + (count as u32) <= 16777216 {
+    if laws::le::<3>(s, 6) + (count as u32) <= 16777216 {
         return Ok(());
     }
     Err(Refusal::WrongAddress)
@@ -40,4 +40,15 @@ pub fn check_asdu(s: &[u8]) -> Result<(), Refusal>
     header::check_header(s)?;
     let size = laws::octet_at(s, 1);
     check_addresses(s, size / 128 % 2 == 1, (size % 128) as usize)
+}
+
+// The header, where nothing is refused of it and of the objects.
+#[tactic(auto, unfolding(crate::specs::Header::header_answer, crate::specs::Reading::read_refusal, crate::specs::Reading::checked_header))]
+pub fn checked_header(s: &[u8]) -> Result<Header, Refusal>
+    ensures value { result ≡ checked_header s.now }
+    ensures count_bound { IfOk result (λ h. h.count ≤ 127) }
+{
+    let h = header::read_header(s)?;
+    check_objects(s, h)?;
+    Ok(h)
 }

@@ -1,5 +1,5 @@
 // The header of an ASDU: type, sequence mark and count, test and negative marks with the cause, originator, common address.
-ghost use Rattle.std.specs.Prelude.{◌≡◌, ◌≤◌};
+ghost use Rattle.std.specs.Prelude.{◌≡◌, ◌≤◌, IfOk};
 ghost use Rattle.elements.specs.Refusals.{answer};
 ghost use Rattle.asdu.specs.Header.{cause_listed, step_of, needed, layout_refusal, early_refusal, header_refusal, header_in, header_answer};
 
@@ -78,7 +78,8 @@ fn check_layout(kind: Kind, sequence: bool, n: u8, len: usize) -> Result<(), Ref
 
 #[tactic(auto, unfolding(crate::specs::Header::header_in))]
 fn header_of(s: &[u8], kind: Kind) -> Header
-    ensures { result ≡ header_in kind s.now }
+    ensures value { result ≡ header_in kind s.now }
+    ensures count_bound { result.count ≤ 127 }
 {
     let size = laws::octet_at(s, 1);
     let why = laws::octet_at(s, 2);
@@ -90,7 +91,7 @@ fn header_of(s: &[u8], kind: Kind) -> Header
         negative: why / 64 % 2 == 1,
         cause: why % 64,
         originator: laws::octet_at(s, 3),
-        address: laws::le2(s, 4),
+        address: laws::le::<2>(s, 4) as u16,
     }
 }
 
@@ -128,7 +129,8 @@ pub fn check_header(s: &[u8]) -> Result<(), Refusal>
 // The refusal first and the fields after it: so a caller that asks for no field pays for none (decision 39).
 #[tactic(auto, unfolding(crate::specs::Header::header_answer))]
 pub fn read_header(s: &[u8]) -> Result<Header, Refusal>
-    ensures { result ≡ header_answer s.now }
+    ensures value { result ≡ header_answer s.now }
+    ensures count_bound { IfOk result (λ h. h.count ≤ 127) }
 {
     check_header(s)?;
     let kind = Kind::try_from(laws::octet_at(s, 0))?;

@@ -4,6 +4,7 @@
 
 pub mod checking;
 pub mod header;
+pub mod objects_at;
 
 use elements::refusals::Refusal;
 use objects::Object;

@@ -9,7 +9,7 @@ pub mod walks;
 
 use bridge_records::fields;
 use elements::information_elements::{Coi, Diq, Siq, Vti};
-use elements::numbers;
+use elements::numbers::Signed;
 use elements::quality_descriptors::{Qds, SeqQd};
 use elements::refusals::{OctetAnswer, PairAnswer};
 
@@ -24,66 +24,62 @@ fn put_answer(out: &mut [u8], answer: OctetAnswer) -> u8 {
 }
 
 pub fn gg_read_qds(octet: u8, out: &mut [u8]) {
-    fields::put_qds(out, 0, Qds::from_byte(octet));
+    fields::put(out, Qds::from_byte(octet));
 }
 
 pub fn gg_write_qds(s: &[u8]) -> u8 {
-    fields::qds_at(s, 0).to_byte()
+    fields::take::<Qds>(s).to_byte()
 }
 
 pub fn gg_read_siq(octet: u8, out: &mut [u8]) {
-    fields::put_siq(out, Siq::from_byte(octet));
+    fields::put(out, Siq::from_byte(octet));
 }
 
 pub fn gg_write_siq(s: &[u8]) -> u8 {
-    fields::siq_in(s).to_byte()
+    fields::take::<Siq>(s).to_byte()
 }
 
 pub fn gg_read_diq(octet: u8, out: &mut [u8]) {
-    fields::put_diq(out, Diq::from_byte(octet));
+    fields::put(out, Diq::from_byte(octet));
 }
 
 pub fn gg_write_diq(s: &[u8]) -> u8 {
-    fields::diq_in(s).to_byte()
+    fields::take::<Diq>(s).to_byte()
 }
 
 pub fn gg_read_seq_qd(octet: u8, out: &mut [u8]) {
-    fields::put_seq_qd(out, 0, SeqQd::from_byte(octet));
+    fields::put(out, SeqQd::from_byte(octet));
 }
 
 pub fn gg_write_seq_qd(s: &[u8], out: &mut [u8]) -> u8 {
-    put_answer(out, fields::seq_qd_at(s, 0).to_byte())
+    put_answer(out, fields::take::<SeqQd>(s).to_byte())
 }
 
 pub fn gg_read_coi(octet: u8, out: &mut [u8]) {
-    fields::put_coi(out, Coi::from_byte(octet));
+    fields::put(out, Coi::from_byte(octet));
 }
 
 pub fn gg_write_coi(s: &[u8], out: &mut [u8]) -> u8 {
-    put_answer(out, fields::coi_in(s).to_byte())
+    put_answer(out, fields::take::<Coi>(s).to_byte())
 }
 
 // The value is the result; whether it is transient stands before the marks of the quality.
 pub fn gg_read_vti(octets: &[u8], out: &mut [u8]) -> i8 {
     let vti = Vti::from_byte(laws::octet_at(octets, 0), laws::octet_at(octets, 1));
-    let qds = vti.qds;
-    laws::put_octet(out, 0, laws::bit(vti.transient));
-    fields::put_qds(out, 1, qds);
+    fields::put(out, (vti.transient, vti.qds));
     vti.value
 }
 
 pub fn gg_write_vti(value: i8, s: &[u8], out: &mut [u8]) -> u8 {
-    let qds = fields::qds_at(s, 1);
-    match (Vti {
+    let (transient, qds) = fields::take(s);
+    let vti = Vti {
         value,
-        transient: laws::octet_at(s, 0) == 1,
+        transient,
         qds,
-    })
-    .to_bytes()
-    {
+    };
+    match vti.to_bytes() {
         PairAnswer::Octets(first, second) => {
-            laws::put_octet(out, 0, first);
-            laws::put_octet(out, 1, second);
+            fields::put(out, [first, second]);
             0
         }
         PairAnswer::Refused(refusal) => refusal.0,
@@ -91,26 +87,26 @@ pub fn gg_write_vti(value: i8, s: &[u8], out: &mut [u8]) -> u8 {
 }
 
 pub fn gg_read_i16(octets: &[u8]) -> i16 {
-    numbers::signed16(laws::le2(octets, 0))
+    i16::from_bits(laws::le::<2>(octets, 0) as u16)
 }
 
 pub fn gg_write_i16(value: i16, out: &mut [u8]) {
-    laws::put_le2(out, 0, numbers::bits16(value));
+    laws::put_le::<2>(out, 0, value.to_bits() as u32);
 }
 
 pub fn gg_read_i32(octets: &[u8]) -> i32 {
-    numbers::signed32(laws::le4(octets, 0))
+    i32::from_bits(laws::le::<4>(octets, 0))
 }
 
 pub fn gg_write_i32(value: i32, out: &mut [u8]) {
-    laws::put_le4(out, 0, numbers::bits32(value));
+    laws::put_le::<4>(out, 0, value.to_bits());
 }
 
 // A bit string, and the bits of an f32.
 pub fn gg_read_u32(octets: &[u8]) -> u32 {
-    laws::le4(octets, 0)
+    laws::le::<4>(octets, 0)
 }
 
 pub fn gg_write_u32(value: u32, out: &mut [u8]) {
-    laws::put_le4(out, 0, value);
+    laws::put_le::<4>(out, 0, value);
 }

@@ -1,16 +1,10 @@
-// A link as a list of numbers: the ring of send times, the lengths of what waits, and then a number for each field, in
-// the order of the constants below. A number past the end of a list reads as 0.
+// A link as a list of numbers: the ring of send times, the lengths of what waits, and then a number for each field, in the
+// order of the records of `link_state`. What a list has no room for is not put, and a number past its end is taken as 0.
 use apdu::frame::{ReceiveNumber, SendNumber};
 use elements::refusals::Refusal;
-use link_state::{Deadline, Link, Queue, Receive, Settings, State, Status, Timers, Window};
+use link_state::{Link, Queue, Receive, Settings, State, Status, Timers, Window};
 
-const TIMES: usize = 0;
-
-const LENGTHS: usize = 32;
-
-const PLACE: usize = 48;
-
-// How many ASDUs wait.
+// Where the list has what the tests look at or set. How many ASDUs wait:
 pub const COUNT: usize = 49;
 
 pub const K: usize = 50;
@@ -25,252 +19,257 @@ pub const T2: usize = 54;
 
 pub const T3: usize = 55;
 
-const FIRST: usize = 56;
-
 // How many frames are outstanding.
 pub const HELD: usize = 57;
-
-const SENT: usize = 58;
-
-const RECEIVED: usize = 59;
-
-const UNCONFIRMED: usize = 60;
-
-// Each deadline takes two: whether it is set, and when it is due.
-const T1_OF_U: usize = 61;
-
-const T2_DUE: usize = 63;
-
-const T3_DUE: usize = 65;
-
-const TESTS: usize = 67;
 
 pub const CLOSED: usize = 68;
 
 pub const REASON: usize = 69;
 
-const CLOCK: usize = 70;
-
 pub fn cell(cells: &[u64], at: usize) -> u64 {
-    if at < cells.len() {
-        return cells[at];
-    }
-    0
+    cells.get(at).copied().unwrap_or(0)
 }
 
 pub fn put_cell(cells: &mut [u64], at: usize, n: u64) {
-    if at < cells.len() {
-        cells[at] = n;
+    if let Some(cell) = cells.get_mut(at) {
+        *cell = n;
     }
 }
 
 pub fn put_mark(cells: &mut [u64], at: usize, mark: bool) {
-    put_cell(cells, at, laws::bit(mark) as u64);
+    put_cell(cells, at, u64::from(mark));
 }
 
-fn size(cells: &[u64], at: usize) -> usize {
-    cell(cells, at) as usize
+// A value whose numbers are put at the start of a list and taken from its start; the list goes on behind them.
+pub trait InCells: Copy {
+    fn put(self, cells: &mut &mut [u64]);
+
+    fn take(cells: &mut &[u64]) -> Self;
 }
 
-// A number that is too great for its field reads as the field's greatest.
-fn number16(cells: &[u64], at: usize) -> u16 {
-    let n = cell(cells, at);
-    if n < 65536 {
-        return n as u16;
+impl InCells for u64 {
+    fn put(self, cells: &mut &mut [u64]) {
+        if let Some(cell) = cells.split_off_first_mut() {
+            *cell = self;
+        }
     }
-    65535
-}
 
-fn number8(cells: &[u64], at: usize) -> u8 {
-    let n = cell(cells, at);
-    if n < 256 {
-        return n as u8;
-    }
-    255
-}
-
-fn mark(cells: &[u64], at: usize) -> bool {
-    cell(cells, at) == 1
-}
-
-fn deadline_in(cells: &[u64], at: usize) -> Deadline {
-    Deadline {
-        on: mark(cells, at),
-        at: cell(cells, std::num::wrapping_add_usize(at, 1)),
+    fn take(cells: &mut &[u64]) -> u64 {
+        cells.split_off_first().copied().unwrap_or(0)
     }
 }
 
-fn put_deadline(cells: &mut [u64], at: usize, d: Deadline) {
-    put_mark(cells, at, d.on);
-    put_cell(cells, std::num::wrapping_add_usize(at, 1), d.at);
+impl InCells for bool {
+    fn put(self, cells: &mut &mut [u64]) {
+        u64::from(self).put(cells);
+    }
+
+    fn take(cells: &mut &[u64]) -> bool {
+        u64::take(cells) == 1
+    }
+}
+
+impl InCells for usize {
+    fn put(self, cells: &mut &mut [u64]) {
+        (self as u64).put(cells);
+    }
+
+    fn take(cells: &mut &[u64]) -> usize {
+        u64::take(cells) as usize
+    }
+}
+
+// A number that is too great for its field is taken as the field's greatest.
+impl InCells for u16 {
+    fn put(self, cells: &mut &mut [u64]) {
+        u64::from(self).put(cells);
+    }
+
+    fn take(cells: &mut &[u64]) -> u16 {
+        u16::try_from(u64::take(cells)).unwrap_or(u16::MAX)
+    }
+}
+
+impl InCells for u8 {
+    fn put(self, cells: &mut &mut [u64]) {
+        u64::from(self).put(cells);
+    }
+
+    fn take(cells: &mut &[u64]) -> u8 {
+        u8::try_from(u64::take(cells)).unwrap_or(u8::MAX)
+    }
+}
+
+impl<C: InCells, const N: usize> InCells for [C; N] {
+    fn put(self, cells: &mut &mut [u64]) {
+        for value in self {
+            value.put(cells);
+        }
+    }
+
+    fn take(cells: &mut &[u64]) -> [C; N] {
+        std::array::from_fn(|_| C::take(cells))
+    }
+}
+
+// A deadline takes two: whether it is set, and when it is due, 0 where it is not.
+impl InCells for Option<u64> {
+    fn put(self, cells: &mut &mut [u64]) {
+        self.is_some().put(cells);
+        self.unwrap_or(0).put(cells);
+    }
+
+    fn take(cells: &mut &[u64]) -> Option<u64> {
+        let set = bool::take(cells);
+        let at = u64::take(cells);
+        set.then_some(at)
+    }
+}
+
+impl InCells for Queue {
+    fn put(self, cells: &mut &mut [u64]) {
+        self.lengths.put(cells);
+        self.place.put(cells);
+        self.count.put(cells);
+    }
+
+    fn take(cells: &mut &[u64]) -> Queue {
+        Queue {
+            lengths: InCells::take(cells),
+            place: InCells::take(cells),
+            count: InCells::take(cells),
+        }
+    }
+}
+
+impl InCells for Settings {
+    fn put(self, cells: &mut &mut [u64]) {
+        self.k.put(cells);
+        self.w.put(cells);
+        self.p.put(cells);
+        self.t1.put(cells);
+        self.t2.put(cells);
+        self.t3.put(cells);
+    }
+
+    fn take(cells: &mut &[u64]) -> Settings {
+        Settings {
+            k: InCells::take(cells),
+            w: InCells::take(cells),
+            p: InCells::take(cells),
+            t1: InCells::take(cells),
+            t2: InCells::take(cells),
+            t3: InCells::take(cells),
+        }
+    }
+}
+
+impl InCells for Window {
+    fn put(self, cells: &mut &mut [u64]) {
+        self.first.put(cells);
+        self.held.put(cells);
+        self.next.0.put(cells);
+    }
+
+    fn take(cells: &mut &[u64]) -> Window {
+        Window {
+            first: InCells::take(cells),
+            held: InCells::take(cells),
+            next: SendNumber(InCells::take(cells)),
+        }
+    }
+}
+
+impl InCells for Receive {
+    fn put(self, cells: &mut &mut [u64]) {
+        self.next.0.put(cells);
+        self.unconfirmed.put(cells);
+    }
+
+    fn take(cells: &mut &[u64]) -> Receive {
+        Receive {
+            next: ReceiveNumber(InCells::take(cells)),
+            unconfirmed: InCells::take(cells),
+        }
+    }
+}
+
+impl InCells for Timers {
+    fn put(self, cells: &mut &mut [u64]) {
+        self.t1u.put(cells);
+        self.t2.put(cells);
+        self.t3.put(cells);
+        self.tests.put(cells);
+    }
+
+    fn take(cells: &mut &[u64]) -> Timers {
+        Timers {
+            t1u: InCells::take(cells),
+            t2: InCells::take(cells),
+            t3: InCells::take(cells),
+            tests: InCells::take(cells),
+        }
+    }
+}
+
+impl InCells for Status {
+    fn put(self, cells: &mut &mut [u64]) {
+        self.closed.put(cells);
+        self.reason.0.put(cells);
+    }
+
+    fn take(cells: &mut &[u64]) -> Status {
+        Status {
+            closed: InCells::take(cells),
+            reason: Refusal(InCells::take(cells)),
+        }
+    }
+}
+
+impl InCells for State {
+    fn put(self, cells: &mut &mut [u64]) {
+        self.queue.put(cells);
+        self.settings.put(cells);
+        self.window.put(cells);
+        self.receive.put(cells);
+        self.timers.put(cells);
+        self.status.put(cells);
+        self.clock.put(cells);
+    }
+
+    fn take(cells: &mut &[u64]) -> State {
+        State {
+            queue: InCells::take(cells),
+            settings: InCells::take(cells),
+            window: InCells::take(cells),
+            receive: InCells::take(cells),
+            timers: InCells::take(cells),
+            status: InCells::take(cells),
+            clock: InCells::take(cells),
+        }
+    }
+}
+
+impl InCells for Link {
+    fn put(self, cells: &mut &mut [u64]) {
+        self.times.put(cells);
+        self.state.put(cells);
+    }
+
+    fn take(cells: &mut &[u64]) -> Link {
+        Link {
+            times: InCells::take(cells),
+            state: InCells::take(cells),
+        }
+    }
 }
 
 pub fn settings_in(cells: &[u64]) -> Settings {
-    Settings {
-        k: size(cells, K),
-        w: number16(cells, W),
-        p: size(cells, P),
-        t1: cell(cells, T1),
-        t2: cell(cells, T2),
-        t3: cell(cells, T3),
-    }
-}
-
-fn put_settings(cells: &mut [u64], s: Settings) {
-    put_cell(cells, K, s.k as u64);
-    put_cell(cells, W, s.w as u64);
-    put_cell(cells, P, s.p as u64);
-    put_cell(cells, T1, s.t1);
-    put_cell(cells, T2, s.t2);
-    put_cell(cells, T3, s.t3);
-}
-
-fn window_in(cells: &[u64]) -> Window {
-    Window {
-        first: size(cells, FIRST),
-        held: size(cells, HELD),
-        next: SendNumber(number16(cells, SENT)),
-    }
-}
-
-fn put_window(cells: &mut [u64], w: Window) {
-    put_cell(cells, FIRST, w.first as u64);
-    put_cell(cells, HELD, w.held as u64);
-    put_cell(cells, SENT, w.next.0 as u64);
-}
-
-fn receive_in(cells: &[u64]) -> Receive {
-    Receive {
-        next: ReceiveNumber(number16(cells, RECEIVED)),
-        unconfirmed: number16(cells, UNCONFIRMED),
-    }
-}
-
-fn put_receive(cells: &mut [u64], r: Receive) {
-    put_cell(cells, RECEIVED, r.next.0 as u64);
-    put_cell(cells, UNCONFIRMED, r.unconfirmed as u64);
-}
-
-fn timers_in(cells: &[u64]) -> Timers {
-    Timers {
-        t1u: deadline_in(cells, T1_OF_U),
-        t2: deadline_in(cells, T2_DUE),
-        t3: deadline_in(cells, T3_DUE),
-        tests: number8(cells, TESTS),
-    }
-}
-
-fn put_timers(cells: &mut [u64], t: Timers) {
-    let t1u = t.t1u;
-    let t2 = t.t2;
-    let t3 = t.t3;
-    put_deadline(cells, T1_OF_U, t1u);
-    put_deadline(cells, T2_DUE, t2);
-    put_deadline(cells, T3_DUE, t3);
-    put_cell(cells, TESTS, t.tests as u64);
-}
-
-fn status_in(cells: &[u64]) -> Status {
-    Status {
-        closed: mark(cells, CLOSED),
-        reason: Refusal(number8(cells, REASON)),
-    }
-}
-
-fn put_status(cells: &mut [u64], s: Status) {
-    put_mark(cells, CLOSED, s.closed);
-    put_cell(cells, REASON, s.reason.0 as u64);
-}
-
-fn lengths_in(cells: &[u64]) -> [usize; 16] {
-    let mut lengths = [0; 16];
-    let mut i: usize = 0;
-    while i < 16 {
-        lengths[i] = size(cells, LENGTHS + i);
-        i += 1;
-    }
-    lengths
-}
-
-fn put_lengths(cells: &mut [u64], lengths: [usize; 16]) {
-    let mut i: usize = 0;
-    while i < 16 {
-        put_cell(cells, LENGTHS + i, lengths[i] as u64);
-        i += 1;
-    }
-}
-
-fn queue_in(cells: &[u64]) -> Queue {
-    Queue {
-        lengths: lengths_in(cells),
-        place: size(cells, PLACE),
-        count: size(cells, COUNT),
-    }
-}
-
-fn put_queue(cells: &mut [u64], q: Queue) {
-    let lengths = q.lengths;
-    put_lengths(cells, lengths);
-    put_cell(cells, PLACE, q.place as u64);
-    put_cell(cells, COUNT, q.count as u64);
-}
-
-fn times_in(cells: &[u64]) -> [u64; 32] {
-    let mut times = [0; 32];
-    let mut i: usize = 0;
-    while i < 32 {
-        times[i] = cell(cells, TIMES + i);
-        i += 1;
-    }
-    times
-}
-
-fn put_times(cells: &mut [u64], times: [u64; 32]) {
-    let mut i: usize = 0;
-    while i < 32 {
-        put_cell(cells, TIMES + i, times[i]);
-        i += 1;
-    }
-}
-
-fn state_in(cells: &[u64]) -> State {
-    State {
-        queue: queue_in(cells),
-        settings: settings_in(cells),
-        window: window_in(cells),
-        receive: receive_in(cells),
-        timers: timers_in(cells),
-        status: status_in(cells),
-        clock: cell(cells, CLOCK),
-    }
-}
-
-fn put_state(cells: &mut [u64], s: State) {
-    let queue = s.queue;
-    let settings = s.settings;
-    let window = s.window;
-    let receive = s.receive;
-    let timers = s.timers;
-    let status = s.status;
-    put_queue(cells, queue);
-    put_settings(cells, settings);
-    put_window(cells, window);
-    put_receive(cells, receive);
-    put_timers(cells, timers);
-    put_status(cells, status);
-    put_cell(cells, CLOCK, s.clock);
+    let mut rest = cells.get(K..).unwrap_or(&[]);
+    Settings::take(&mut rest)
 }
 
 pub fn link_in(cells: &[u64]) -> Link {
-    Link {
-        times: times_in(cells),
-        state: state_in(cells),
-    }
-}
-
-pub fn put_link(cells: &mut [u64], l: Link) {
-    let times = l.times;
-    let state = l.state;
-    put_times(cells, times);
-    put_state(cells, state);
+    let mut rest = cells;
+    Link::take(&mut rest)
 }

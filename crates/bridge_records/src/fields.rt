@@ -1,110 +1,116 @@
-// An element as the list of its fields, an octet each: 0 or 1 for a mark, the number of a state. A cause of
-// initialisation is 0 to 2 for a named one or 3 for another, and then the cause. A place is a u8, so that no sum of one
-// overflows.
-use elements::information_elements::{Coi, Diq, Dpi, Siq, Spi};
-use elements::quality_descriptors::{Qds, SeqQd};
+// A value as the list of its fields: an octet for a mark, which is 0 or 1, and as many as it has for a number, the high
+// octet first. A signed number is moved up by half its range. So numbers do not look like their octets on the wire.
+//
+// The fields are put at the start of a list and taken from its start, and the list goes on behind them. What a list has no
+// room for is not put, and an octet past its end is taken as 0.
+pub trait Listed: Copy {
+    fn put(self, list: &mut &mut [u8]);
 
-fn mark(fields: &[u8], at: usize) -> bool {
-    laws::octet_at(fields, at) == 1
+    fn take(list: &mut &[u8]) -> Self;
 }
 
-fn put_marks(fields: &mut [u8], at: u8, iv: bool, nt: bool, sb: bool, bl: bool) {
-    let place = at as usize;
-    laws::put_octet(fields, place, laws::bit(iv));
-    laws::put_octet(fields, place + 1, laws::bit(nt));
-    laws::put_octet(fields, place + 2, laws::bit(sb));
-    laws::put_octet(fields, place + 3, laws::bit(bl));
+pub fn put<L: Listed>(list: &mut [u8], value: L) {
+    let mut rest = list;
+    value.put(&mut rest);
 }
 
-pub fn put_qds(fields: &mut [u8], at: u8, qds: Qds) {
-    let place = at as usize;
-    put_marks(fields, at, qds.iv, qds.nt, qds.sb, qds.bl);
-    laws::put_octet(fields, place + 4, laws::bit(qds.ov));
+pub fn take<L: Listed>(list: &[u8]) -> L {
+    let mut rest = list;
+    L::take(&mut rest)
 }
 
-pub fn qds_at(fields: &[u8], at: u8) -> Qds {
-    let place = at as usize;
-    Qds {
-        iv: mark(fields, place),
-        nt: mark(fields, place + 1),
-        sb: mark(fields, place + 2),
-        bl: mark(fields, place + 3),
-        ov: mark(fields, place + 4),
+impl Listed for u8 {
+    fn put(self, list: &mut &mut [u8]) {
+        if let Some(place) = list.split_off_first_mut() {
+            *place = self;
+        }
+    }
+
+    fn take(list: &mut &[u8]) -> u8 {
+        list.split_off_first().copied().unwrap_or(0)
     }
 }
 
-pub fn put_siq(fields: &mut [u8], siq: Siq) {
-    put_marks(fields, 0, siq.iv, siq.nt, siq.sb, siq.bl);
-    let spi = siq.spi;
-    laws::put_octet(fields, 4, spi.to_byte());
-}
+impl Listed for bool {
+    fn put(self, list: &mut &mut [u8]) {
+        u8::from(self).put(list);
+    }
 
-pub fn siq_in(fields: &[u8]) -> Siq {
-    let spi = Spi::from_byte(laws::octet_at(fields, 4));
-    Siq {
-        iv: mark(fields, 0),
-        nt: mark(fields, 1),
-        sb: mark(fields, 2),
-        bl: mark(fields, 3),
-        spi,
+    fn take(list: &mut &[u8]) -> bool {
+        u8::take(list) == 1
     }
 }
 
-pub fn put_diq(fields: &mut [u8], diq: Diq) {
-    put_marks(fields, 0, diq.iv, diq.nt, diq.sb, diq.bl);
-    let dpi = diq.dpi;
-    laws::put_octet(fields, 4, dpi.to_byte());
-}
+impl<L: Listed, const N: usize> Listed for [L; N] {
+    fn put(self, list: &mut &mut [u8]) {
+        for value in self {
+            value.put(list);
+        }
+    }
 
-pub fn diq_in(fields: &[u8]) -> Diq {
-    let dpi = Dpi::from_byte(laws::octet_at(fields, 4));
-    Diq {
-        iv: mark(fields, 0),
-        nt: mark(fields, 1),
-        sb: mark(fields, 2),
-        bl: mark(fields, 3),
-        dpi,
+    fn take(list: &mut &[u8]) -> [L; N] {
+        std::array::from_fn(|_| L::take(list))
     }
 }
 
-pub fn put_seq_qd(fields: &mut [u8], at: u8, seq_qd: SeqQd) {
-    let place = at as usize;
-    laws::put_octet(fields, place, laws::bit(seq_qd.iv));
-    laws::put_octet(fields, place + 1, laws::bit(seq_qd.ca));
-    laws::put_octet(fields, place + 2, laws::bit(seq_qd.cy));
-    laws::put_octet(fields, place + 3, seq_qd.seq);
-}
+impl<A: Listed, B: Listed> Listed for (A, B) {
+    fn put(self, list: &mut &mut [u8]) {
+        let (first, second) = self;
+        first.put(list);
+        second.put(list);
+    }
 
-pub fn seq_qd_at(fields: &[u8], at: u8) -> SeqQd {
-    let place = at as usize;
-    SeqQd {
-        iv: mark(fields, place),
-        ca: mark(fields, place + 1),
-        cy: mark(fields, place + 2),
-        seq: laws::octet_at(fields, place + 3),
+    fn take(list: &mut &[u8]) -> (A, B) {
+        (A::take(list), B::take(list))
     }
 }
 
-fn put_cause(fields: &mut [u8], which: u8, cause: u8) {
-    laws::put_octet(fields, 0, which);
-    laws::put_octet(fields, 1, cause);
-}
+impl Listed for u16 {
+    fn put(self, list: &mut &mut [u8]) {
+        self.to_be_bytes().put(list);
+    }
 
-pub fn put_coi(fields: &mut [u8], coi: Coi) {
-    match coi {
-        Coi::LocalPowerOn => put_cause(fields, 0, 0),
-        Coi::LocalManualReset => put_cause(fields, 1, 1),
-        Coi::RemoteReset => put_cause(fields, 2, 2),
-        Coi::Other(cause) => put_cause(fields, 3, cause),
+    fn take(list: &mut &[u8]) -> u16 {
+        u16::from_be_bytes(Listed::take(list))
     }
 }
 
-pub fn coi_in(fields: &[u8]) -> Coi {
-    let which = laws::octet_at(fields, 0);
-    match which {
-        0 => Coi::LocalPowerOn,
-        1 => Coi::LocalManualReset,
-        2 => Coi::RemoteReset,
-        _ => Coi::Other(laws::octet_at(fields, 1)),
+impl Listed for u32 {
+    fn put(self, list: &mut &mut [u8]) {
+        self.to_be_bytes().put(list);
+    }
+
+    fn take(list: &mut &[u8]) -> u32 {
+        u32::from_be_bytes(Listed::take(list))
+    }
+}
+
+impl Listed for i8 {
+    fn put(self, list: &mut &mut [u8]) {
+        self.wrapping_sub(i8::MIN).cast_unsigned().put(list);
+    }
+
+    fn take(list: &mut &[u8]) -> i8 {
+        u8::take(list).cast_signed().wrapping_add(i8::MIN)
+    }
+}
+
+impl Listed for i16 {
+    fn put(self, list: &mut &mut [u8]) {
+        self.wrapping_sub(i16::MIN).cast_unsigned().put(list);
+    }
+
+    fn take(list: &mut &[u8]) -> i16 {
+        u16::take(list).cast_signed().wrapping_add(i16::MIN)
+    }
+}
+
+impl Listed for i32 {
+    fn put(self, list: &mut &mut [u8]) {
+        self.wrapping_sub(i32::MIN).cast_unsigned().put(list);
+    }
+
+    fn take(list: &mut &[u8]) -> i32 {
+        u32::take(list).cast_signed().wrapping_add(i32::MIN)
     }
 }

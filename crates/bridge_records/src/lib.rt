@@ -3,6 +3,6 @@
 #![tactic(auto)]
 
 pub mod answers;
+mod elements_listed;
 pub mod fields;
-pub mod raised;
 pub mod records;

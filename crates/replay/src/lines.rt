@@ -4,7 +4,7 @@
 ghost use Rattle.std.specs.Prelude.{◌≤◌};
 
 use crate::{asdus, digits, frames, octets, streams};
-use bridge_records::raised;
+use bridge_records::fields;
 use test_text::text;
 
 const MAX_GIVEN: usize = 256;
@@ -30,7 +30,7 @@ const SHAPE_OF_OCTETS: Shape = Shape {
 fn number_at(line: &[u8], at: usize) -> usize {
     let mut octets = [0u8; 2];
     digits::take_octets(laws::part_from(line, at), &mut octets, 2);
-    raised::number16(&octets) as usize
+    fields::take::<u16>(&octets) as usize
 }
 
 fn shape_of_asdu(line: &[u8]) -> Shape
@@ -74,7 +74,7 @@ fn put_number(line: &mut [u8], at: usize, n: usize)
     requires { (at ≤ 12) × (n ≤ 2048) }
 {
     let mut octets = [0u8; 2];
-    raised::put_number16(&mut octets, 0, n as u32);
+    fields::put(&mut octets, n as u16);
     digits::put_octets(line, at, &octets, 2);
 }
 

@@ -1,5 +1,5 @@
 // The library's answer to one step of assembling.
-use bridge_records::raised;
+use bridge_records::fields;
 use test_text::text;
 
 const CARRY_SIZE: usize = 255;
@@ -15,7 +15,7 @@ pub fn steps(given: &[u8], told: &[u8]) -> bool {
     let mut carry = [0u8; CARRY_SIZE];
     bridge_streams::gg_stream_top_up(&mut carry, 0, text::part_to(given, held));
     let number = bridge_streams::gg_stream_step(&mut carry, held, laws::part_from(given, held));
-    if number != raised::number32(laws::part_from(told, 1)) {
+    if number != fields::take::<u32>(laws::part_from(told, 1)) {
         return false;
     }
     let moved = (number / 0x1000 % 0x1000) as usize;
