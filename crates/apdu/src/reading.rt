@@ -34,7 +34,7 @@ fn check_outer(f: &[u8]) -> Result<(), Refusal>
 fn number_at(f: &[u8], at: usize) -> u16
     ensures { result ≡ number_at at f.now }
 {
-    laws::le2(f, at) / 2
+    (laws::le::<2>(f, at) / 2) as u16
 }
 
 // The control octets of a frame without an ASDU: 5, 6, 7.
@@ -47,7 +47,7 @@ fn read_short(f: &[u8]) -> Result<Frame, Refusal>
         if laws::octet_at(f, 3) != 0 {
             return Err(Refusal::BadUControl);
         }
-        if laws::le2(f, 4) != 0 {
+        if laws::le::<2>(f, 4) != 0 {
             return Err(Refusal::BadUControl);
         }
         return Ok(Frame::U(UFrame::from_byte(first)));
@@ -55,7 +55,7 @@ fn read_short(f: &[u8]) -> Result<Frame, Refusal>
     if first % 4 != 1 {
         return Err(Refusal::IWithoutAsdu);
     }
-    if laws::le2(f, 2) != 1 {
+    if laws::le::<2>(f, 2) != 1 {
         return Err(Refusal::BadSControl);
     }
     Ok(Frame::S(ReceiveNumber(number_at(f, 4))))

@@ -28,8 +28,8 @@ pub fn put_start(out: &mut [u8], at: usize, length: u8, a: u16, b: u16)
     if at < out.len() {
         laws::put_octet(out, at, frame::START);
         laws::put_octet(out, at + 1, length);
-        laws::put_le2(out, at + 2, a);
-        laws::put_le2(out, at + 4, b);
+        laws::put_le::<2>(out, at + 2, a as u32);
+        laws::put_le::<2>(out, at + 4, b as u32);
     }
 }
 

@@ -43,16 +43,14 @@ pub extern "C" fn gb_plain(f: &[u8]) -> u32 {
 #[unsafe(no_mangle)]
 pub extern "C" fn gb_write(f: &[u8], out: &mut [u8], times: u32) -> u32 {
     let mut asdu = asdu_read::read_record(reading::asdu_of(f));
-    let mut i: u32 = 0;
     let mut length: usize = 0;
-    while i < times {
+    for i in 0..times {
         asdu.originator = laws::low(i);
         let answer = writing::write_i(SendNumber(2), ReceiveNumber(3), asdu, out);
         let WriteAnswer::Octets(n) = answer else {
             return 0;
         };
         length = n;
-        i += 1;
     }
     (length % 256) as u32
 }

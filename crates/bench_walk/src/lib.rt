@@ -5,18 +5,15 @@
 use apdu::reading;
 use asdu::header::MAX_OBJECTS;
 use asdu_walk::Found;
-use elements::numbers;
 use objects::Object;
 use objects::values::Value;
-use std::num::wrapping_add_u32;
 
 // The address, with a counter's value and sequence number: a walk that finds something else gives another sum.
 fn weight(object: Object) -> u32 {
-    let value = object.value;
-    match value {
+    match object.value {
         Value::MItNa1(n, seq_qd) => {
-            let counted = wrapping_add_u32(numbers::bits32(n), laws::wide(seq_qd.seq));
-            wrapping_add_u32(object.address, counted)
+            let counted = n.cast_unsigned().wrapping_add(u32::from(seq_qd.seq));
+            object.address.wrapping_add(counted)
         }
         _ => object.address,
     }
@@ -28,15 +25,13 @@ pub extern "C" fn gb_walk(f: &[u8]) -> u32 {
     let asdu = reading::asdu_of(f);
     let mut place = asdu_walk::start(asdu);
     let mut sum: u32 = 0;
-    let mut i: usize = 0;
-    while i < MAX_OBJECTS {
+    for _ in 0..MAX_OBJECTS {
         let found = asdu_walk::object_from(asdu, place);
         let Found::Object(object) = found else {
             return sum;
         };
-        sum = wrapping_add_u32(sum, weight(object));
+        sum = sum.wrapping_add(weight(object));
         place = place.after();
-        i += 1;
     }
     sum
 }

@@ -1,14 +1,12 @@
 // ASDUs read, checked, written and told plain: records, and answers as numbers, as bridge_records has them.
-use asdu::{Answer, checking};
+use asdu::{Answer, ReadAsdu, checking};
 use bridge_records::{answers, records};
 
 // The record is written as far as `record` reaches, the one beside a refusal too.
 pub fn gg_asdu_read(s: &[u8], record: &mut [u8]) -> u32 {
     let read = asdu_read::read_asdu(s);
-    let asdu = read.asdu;
-    let answer = read.answer;
-    records::put_record(record, asdu);
-    answers::number(answer)
+    records::put_record(record, read.asdu);
+    answers::number(read.answer)
 }
 
 pub fn gg_asdu_check(s: &[u8]) -> u32 {
@@ -25,9 +23,7 @@ pub fn gg_asdu_write(record: &[u8], out: &mut [u8]) -> u32 {
 }
 
 pub fn gg_asdu_rewrite(s: &[u8], out: &mut [u8]) -> u32 {
-    let read = asdu_read::read_asdu(s);
-    let asdu = read.asdu;
-    let answer = read.answer;
+    let ReadAsdu { asdu, answer } = asdu_read::read_asdu(s);
     let Answer::Accepted = answer else {
         return answers::READING_REFUSED + answers::number(answer);
     };

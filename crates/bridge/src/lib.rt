@@ -1,5 +1,5 @@
 // The proved library for the programs that test it: host/ links these functions as `bridge_c` hands them on to C, and replay
-// and drive_frames call them. An element is the list of its fields (bridge_records, fields.rt). What may be refused is
+// calls them. An element is the list of its fields (bridge_records, fields.rt). What may be refused is
 // written to `out`, with the number of the refusal as the result, 0 for none. A list that is too short reads as 0 and takes
 // nothing past its end, so no call can fail. Frames are in `bridge_frames`.
 #![tactic(auto)]
@@ -9,7 +9,7 @@ pub mod walks;
 
 use bridge_records::fields;
 use elements::information_elements::{Coi, Diq, Siq, Vti};
-use elements::numbers;
+use elements::numbers::Signed;
 use elements::quality_descriptors::{Qds, SeqQd};
 use elements::refusals::{OctetAnswer, PairAnswer};
 
@@ -87,26 +87,26 @@ pub fn gg_write_vti(value: i8, s: &[u8], out: &mut [u8]) -> u8 {
 }
 
 pub fn gg_read_i16(octets: &[u8]) -> i16 {
-    numbers::signed16(laws::le2(octets, 0))
+    i16::from_bits(laws::le::<2>(octets, 0) as u16)
 }
 
 pub fn gg_write_i16(value: i16, out: &mut [u8]) {
-    laws::put_le2(out, 0, numbers::bits16(value));
+    laws::put_le::<2>(out, 0, value.to_bits() as u32);
 }
 
 pub fn gg_read_i32(octets: &[u8]) -> i32 {
-    numbers::signed32(laws::le4(octets, 0))
+    i32::from_bits(laws::le::<4>(octets, 0))
 }
 
 pub fn gg_write_i32(value: i32, out: &mut [u8]) {
-    laws::put_le4(out, 0, numbers::bits32(value));
+    laws::put_le::<4>(out, 0, value.to_bits());
 }
 
 // A bit string, and the bits of an f32.
 pub fn gg_read_u32(octets: &[u8]) -> u32 {
-    laws::le4(octets, 0)
+    laws::le::<4>(octets, 0)
 }
 
 pub fn gg_write_u32(value: u32, out: &mut [u8]) {
-    laws::put_le4(out, 0, value);
+    laws::put_le::<4>(out, 0, value);
 }

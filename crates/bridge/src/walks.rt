@@ -30,14 +30,11 @@ pub fn gg_asdu_walk(s: &[u8], record: &mut [u8]) -> u32 {
     let mut asdu = asdu_read::read_record(s);
     let mut place = asdu_walk::start(s);
     let mut count: usize = 0;
-    let mut i: usize = 0;
-    while i < 127 {
+    for (i, place_in_record) in asdu.objects.iter_mut().enumerate() {
         let found = asdu_walk::object_from(s, place);
-        let object = object_in(found);
-        asdu.objects[i] = object;
+        *place_in_record = object_in(found);
         count = counted(found, count, i + 1);
         place = place.after();
-        i += 1;
     }
     asdu.count = count;
     records::put_record(record, asdu);

@@ -3,16 +3,19 @@
 #![tactic(auto)]
 
 use bridge_cells::{called, cells};
+use link::answers::Done;
 use link_state::opening;
 
 // With the settings that the list has.
 pub fn gg_link_open(list: &mut [u64], moment: u64) -> u32 {
-    let opened = opening::open(cells::settings_in(list), moment);
-    let link = opened.link;
-    let answer = opened.answer;
-    cells::put_link(list, link);
-    called::put_answer(list, 0, false, false);
-    laws::wide(answer.refusal().0)
+    let opened = opening::open(cells::link_in(list).state.settings, moment);
+    let nothing = Done {
+        written: 0,
+        full: false,
+        came: false,
+    };
+    called::put(list, opened.link, nothing);
+    laws::wide(opened.answer.refusal().0)
 }
 
 pub fn gg_link_receive(
