@@ -41,11 +41,9 @@ accept octets out none e h s = (rw (none, e), rw none (s ∙ sets_all out octets
 -- ---- refusals in a row
 
 pub then_stops : (r x : ℕ) → eqb r 0 ≡ false → (r then x) ≡ r
-unfolding ◌then◌
 then_stops r x some = rw some
 
 pub then_goes : (r x : ℕ) → r ≡ 0 → (r then x) ≡ x
-unfolding ◌then◌
 then_goes r x none = rw none
 
 pub no_room : (n room : ℕ) → room < n → room_refusal n room ≡ output_too_short

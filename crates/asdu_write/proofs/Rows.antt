@@ -29,16 +29,16 @@ alone k false o = refl
 -- its rows: 16, 14, 15
 module _ (k : Kind) (o : Object) where
   pub alone_kind : (type_of (value_kind o.value) ≡ type_of k → ⊥) → object_refusal k false 0 0 o ≡ wrong_kind
-  unfolding object_refusal kind_refusal ◌then◌
+  unfolding object_refusal kind_refusal
   alone_kind h = simp (ne_eqb _ _ h)
 
   module _ (h : type_of (value_kind o.value) ≡ type_of k) where
     pub alone_address : 16777215 < o.address → object_refusal k false 0 0 o ≡ wrong_address
-    unfolding object_refusal kind_refusal address_refusal ◌then◌
+    unfolding object_refusal kind_refusal address_refusal
     alone_address g = simp (eq-eqb _ _ h, lt-ltb _ _ g)
 
     pub alone_value : o.address ≤ 16777215 → object_refusal k false 0 0 o ≡ value_refusal o.value
-    unfolding object_refusal kind_refusal address_refusal ◌then◌
+    unfolding object_refusal kind_refusal address_refusal
     alone_value g = simp (eq-eqb _ _ h, le-ltb _ _ g)
 
 module _ (n i : ℕ) (l : List Object) (g : n ≤ length l) where

@@ -57,11 +57,11 @@ module _ (carry : List ℕ) (held : ℕ) (chunk : List ℕ) (room : 255 ≤ leng
   l = get_or (on_hand carry held chunk) 1 0
 
   few_none : held + length chunk < 3 → top_up_refusal carry held chunk ≡ 0
-  unfolding top_up_refusal ◌then◌
+  unfolding top_up_refusal
   few_none h = rw (carry_good, lt-ltb _ 3 h)
 
   enough_by : 3 ≤ held + length chunk → top_up_refusal carry held chunk ≡ start_refusal first l
-  unfolding top_up_refusal ◌then◌
+  unfolding top_up_refusal
   enough_by h = rw (carry_good, le-ltb _ 3 h)
 
   moves : (m : ℕ) → top_up_refusal carry held chunk ≡ 0 → moving carry held chunk ≡ m → top_up_answer carry held chunk ≡ TopUpAnswer.Moved m

@@ -67,11 +67,11 @@ last =
     (at 50 (frame (s_with 0x06) false))
 
 pub first_plain : plain_answer first ≡ PlainAnswer.Plain
-unfolding ◌then◌ le_of object_of object_answer every cause_listed step_of needed header_in layout_refusal early_refusal header_refusal header_answer object_in answer_at first_number objects_refusal read_refusal plain_element plain_objects plain_answer
+unfolding le_of object_of object_answer every cause_listed step_of needed header_in layout_refusal early_refusal header_refusal header_answer object_in answer_at first_number objects_refusal read_refusal plain_element plain_objects plain_answer
 first_plain = refl
 
 pub shows : Shown
-unfolding ◌then◌ every le_of le_octets object_of object_answer cause_listed step_of needed header_in layout_refusal early_refusal header_refusal header_answer object_in answer_at first_number objects_refusal read_refusal plain_element plain_objects plain_answer outer_refusal short_answer long_answer frame_answer asdu_part i_octets starts.start_refusal sight stream confirms numbers_in_limits ack_refusal acknowledged sound_settings sound_counts sound_length sound_lengths sound_time_at sound_times sound_timers sound_link call_refusal fresh_link open_refusal opened octets_of wire window_open window_full freed_of sent_of hand_out first_waiting shifted queued let_out flushed room send_waiting due ending shut closing accepting release s_freeing on_s received i_freeing on_i on_answer on_frame send_plain send_by on_send event_outcome called answer_of called_of
+unfolding every le_of le_octets object_of object_answer cause_listed step_of needed header_in layout_refusal early_refusal header_refusal header_answer object_in answer_at first_number objects_refusal read_refusal plain_element plain_objects plain_answer outer_refusal short_answer long_answer frame_answer asdu_part i_octets starts.start_refusal sight stream confirms numbers_in_limits ack_refusal acknowledged sound_settings sound_counts sound_length sound_lengths sound_time_at sound_times sound_timers sound_link call_refusal fresh_link open_refusal opened octets_of wire window_open window_full freed_of sent_of hand_out first_waiting shifted queued let_out flushed room send_waiting due ending shut closing accepting release s_freeing on_s received i_freeing on_i on_answer on_frame send_plain send_by on_send event_outcome called answer_of called_of
 shows =
     record {
       link = last.link;

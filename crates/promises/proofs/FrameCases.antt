@@ -26,7 +26,7 @@ only_none r h some =
     rw (le-leb r 32767 h, e, lt-leb r 0 (omega arith))
 
 pub cases : MarkedCases
-unfolding marked ◌then◌ tabulate padded le_of element_of object_of object_answer cause_listed step_of needed header_in layout_refusal early_refusal header_refusal header_answer object_in answer_at first_number objects_refusal read_refusal read_body read_asdu plain_answer outer_refusal short_answer long_answer frame_answer asdu_part plain_frame acknowledged ack_refusal numbers_in_limits confirms
+unfolding marked tabulate padded le_of element_of object_of object_answer cause_listed step_of needed header_in layout_refusal early_refusal header_refusal header_answer object_in answer_at first_number objects_refusal read_refusal read_body read_asdu plain_answer outer_refusal short_answer long_answer frame_answer asdu_part plain_frame acknowledged ack_refusal numbers_in_limits confirms
 cases = (
   refl,
   (

@@ -33,7 +33,6 @@ pick_most true p q = p
 pick_most false p q = q
 
 then_most : {m : ℕ} (x y : ℕ) → x ≤ m → y ≤ m → (x then y) ≤ m
-unfolding ◌then◌
 then_most x y p q = pick_most (eqb x 0) q p
 
 -- ---- an ASDU

@@ -62,7 +62,7 @@ record AllBack (h : Header) (s : List ℕ) (i : ℕ) (os : List Object) : Type 0
 all_back : (h : Header) (s : List ℕ) (first : ℕ) → (h.sequence ≡ true → le_of 3 (drop 6 s) ≡ first)
     → (i : ℕ) (os : List Object) → first_refusal h.kind h.sequence first i os ≡ 0 → TypedObjects os
     → drop (needed h.kind h.sequence i) s ≡ objects_octets h.sequence os → AllBack h s i os
-unfolding objects_octets tabulate first_number ◌then◌
+unfolding objects_octets tabulate first_number
 all_back h s first l i [] r t e = record { are = refl; pass = refl }
 all_back h s first l i (o ∷ os) r t e =
     let k = h.kind in
