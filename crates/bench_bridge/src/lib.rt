@@ -5,14 +5,9 @@
 use apdu::frame::{Frame, ReceiveNumber, SendNumber};
 use apdu::{reading, writing};
 use asdu::Form;
-use elements::refusals::Refusal;
 
 // Above any number of refusal.
 const RESERVED: u32 = 100;
-
-fn number(refusal: Refusal) -> u32 {
-    u32::from(u8::from(refusal))
-}
 
 // The address of the object at `place`; beside a refusal that of a blank one, 0. Only the host knows the place, so the
 // whole record has to be there.
@@ -30,7 +25,7 @@ pub extern "C" fn gb_read(f: &[u8], place: usize) -> u32 {
 pub extern "C" fn gb_check(f: &[u8]) -> u32 {
     match reading::read_frame(f) {
         Ok(_) => 0,
-        Err(refusal) => number(refusal),
+        Err(refusal) => refusal as u32,
     }
 }
 
@@ -39,7 +34,7 @@ pub extern "C" fn gb_plain(f: &[u8]) -> u32 {
     match reading::plain_frame(f) {
         Ok(Form::Plain) => 0,
         Ok(Form::Reserved) => RESERVED,
-        Err(refusal) => number(refusal),
+        Err(refusal) => refusal as u32,
     }
 }
 

@@ -3,6 +3,7 @@
 use apdu::frame::{Frame, UFrame};
 use bridge_records::fields;
 
+// Kept as numbers: C sees them.
 const I: u8 = 1;
 
 const S: u8 = 2;

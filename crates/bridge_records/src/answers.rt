@@ -17,7 +17,7 @@ pub fn number<T: Drop>(answer: Result<T, Refusal>) -> u32
 {
     match answer {
         Ok(_) => 0,
-        Err(refusal) => u32::from(u8::from(refusal)),
+        Err(refusal) => refusal as u32,
     }
 }
 

@@ -5,8 +5,8 @@
 use assembly::picking::Pick;
 use assembly::stepping::Step;
 use assembly::{picking, stepping, topping};
-use elements::refusals::Refusal;
 
+// Kept as numbers: C sees them.
 const CARRY: u8 = 1;
 
 const CHUNK: u8 = 2;
@@ -20,15 +20,11 @@ fn told(what: u8, moved: usize, size: usize) -> u32 {
     u32::from(what) * 0x1000000 + ((moved % 0x1000) as u32) * 0x1000 + ((size % 0x1000) as u32)
 }
 
-fn refused(refusal: Refusal) -> u32 {
-    u32::from(u8::from(refusal))
-}
-
 // Moved bytes are told as where more is needed.
 pub fn gg_stream_top_up(carry: &mut [u8], held: usize, chunk: &[u8]) -> u32 {
     match topping::top_up(carry, held, chunk) {
         Ok(moved) => told(MORE, moved, 0),
-        Err(refusal) => refused(refusal),
+        Err(refusal) => refusal as u32,
     }
 }
 
@@ -37,7 +33,7 @@ pub fn gg_stream_which(carry: &[u8], held: usize, chunk: &[u8]) -> u32 {
         Ok(Pick::Carry(size)) => told(CARRY, 0, size),
         Ok(Pick::Chunk(size)) => told(CHUNK, 0, size),
         Ok(Pick::More) => told(MORE, 0, 0),
-        Err(refusal) => refused(refusal),
+        Err(refusal) => refusal as u32,
     }
 }
 
@@ -54,6 +50,6 @@ pub fn gg_stream_step(carry: &mut [u8], held: usize, chunk: &[u8]) -> u32 {
         Ok(Step::Chunk(size)) => told(CHUNK, 0, size),
         Ok(Step::Carry(moved, size)) => told(CARRY, moved, size),
         Ok(Step::More(moved)) => told(MORE, moved, 0),
-        Err(refusal) => refused(refusal),
+        Err(refusal) => refusal as u32,
     }
 }
