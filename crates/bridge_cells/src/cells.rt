@@ -2,7 +2,7 @@
 // order of the records of `link_state`. What a list has no room for is not put, and a number past its end is taken as 0.
 use apdu::frame::{ReceiveNumber, SendNumber};
 use elements::refusals::Refusal;
-use link_state::{Deadline, Link, Queue, Receive, Settings, State, Status, Timers, Window};
+use link_state::{Link, Queue, Receive, Settings, State, Status, Timers, Window};
 
 // Where the list has what the tests look at or set. How many ASDUs wait:
 pub const COUNT: usize = 49;
@@ -112,18 +112,17 @@ impl<C: InCells, const N: usize> InCells for [C; N] {
     }
 }
 
-// Whether it is set, and when it is due.
-impl InCells for Deadline {
+// A deadline takes two: whether it is set, and when it is due, 0 where it is not.
+impl InCells for Option<u64> {
     fn put(self, cells: &mut &mut [u64]) {
-        self.on.put(cells);
-        self.at.put(cells);
+        self.is_some().put(cells);
+        self.unwrap_or(0).put(cells);
     }
 
-    fn take(cells: &mut &[u64]) -> Deadline {
-        Deadline {
-            on: InCells::take(cells),
-            at: InCells::take(cells),
-        }
+    fn take(cells: &mut &[u64]) -> Option<u64> {
+        let set = bool::take(cells);
+        let at = u64::take(cells);
+        set.then_some(at)
     }
 }
 

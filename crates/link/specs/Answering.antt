@@ -2,6 +2,8 @@
 -- of a call rests on and has done. No promise speaks of them.
 use Rattle.std.specs.Prelude.{ℕ, ◌+◌, ◌%◌, ◌≤◌, ◌<◌, Bool, false, ◌≡◌, List, length, get_or, eqb}
 use Rattle.std.proofs.lemmas.List.Edits.{sets}
+use Rattle.std.specs.Fn.{Once}
+use denote.Ref.{MutBor}
 use Rattle.laws.specs.Choice.{pick}
 use Rattle.elements.specs.Refusals.{refusal}
 use Rattle.elements.specs.declared.refusals.Refusal.{Refusal}
@@ -57,6 +59,28 @@ refused_call l r = record { link = l; answer = LinkAnswer.Refused r }
 -- the ring joins what the event has come to
 abbrev pub call_of : List ℕ → Step → Called
 call_of times r = record { link = record { times = times; state = r.state }; answer = r.answer }
+
+-- an event's step, as a call runs it: it may be called at this state, ring and output; and such a call may answer r, and leave
+-- the ring and the output so
+abbrev pub Running : Type 0 → Type 1
+Running F = Once F (State × (MutBor (List ℕ) × (MutBor (List ℕ) × Unit {0}))) (Step × (MutBor (List ℕ) × (MutBor (List ℕ) × Unit {0})))
+
+pub record CanRun {F : Type 0} (g : Running F) (event : F) (s : State) (times out : List ℕ) : Type 0 where
+  pub at : (ring octets : MutBor (List ℕ)) → ring.now ≡ times → octets.now ≡ out → g.pre event (s, (ring, (octets, tt)))
+
+pub record Ran {F : Type 0} (g : Running F) (event : F) (s : State) (times out : List ℕ) (r : Step) (times' out' : List ℕ) : Type 0 where
+  pub ring : MutBor (List ℕ)
+  pub octets : MutBor (List ℕ)
+  pub ring' : MutBor (List ℕ)
+  pub octets' : MutBor (List ℕ)
+  pub begins : (ring.now ≡ times) × (octets.now ≡ out)
+  pub met : g.post event (s, (ring, (octets, tt))) (r, (ring', (octets', tt)))
+  pub leaves : (ring'.now ≡ times') × (octets'.now ≡ out')
+
+-- a call: the refusal of its check, with nothing changed, or else what its event has come to
+pub record Comes (refused : ℕ) (l : Link) (Runs : Step → List ℕ → List ℕ → Type 0) (out : List ℕ) (a : Called) (out' : List ℕ) : Type 0 where
+  pub passes : refused ≡ 0 → (r : Step) × (times : List ℕ) × Runs r times out' × (a ≡ call_of times r)
+  pub refuses : eqb refused 0 ≡ false → (a ≡ refused_call l (refusal refused)) × (out' ≡ out)
 
 -- ---- what a step has done
 

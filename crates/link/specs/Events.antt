@@ -1,5 +1,5 @@
 -- Document 01, "The link": what each event makes of the state, the ring, the pool and the output.
-use Rattle.std.specs.Prelude.{ℕ, ◌+◌, ◌*◌, ◌%◌, Bool, true, false, ◌&&◌, List, [], length, get_or, leb, ltb, eqb}
+use Rattle.std.specs.Prelude.{ℕ, ◌+◌, ◌*◌, ◌%◌, Bool, true, false, ◌&&◌, Option, None, Some, List, [], length, get_or, leb, ltb, eqb}
 use Rattle.std.proofs.lemmas.List.Edits.{sets}
 use Rattle.laws.specs.Choice.{pick}
 use Rattle.elements.specs.Refusals.{wrong_send_number, u_not_answered, u_timed_out, i_timed_out, too_many_tests, queue_full, not_plain_form}
@@ -13,7 +13,6 @@ use Rattle.link_state.specs.Acknowledging.{acknowledged}
 use Rattle.link_state.specs.Limits.{call_refusal}
 use Rattle.link_state.specs.Opening.{unset}
 use Rattle.link_state.specs.declared.acknowledging.AckAnswer.{AckAnswer}
-use Rattle.link_state.specs.declared.Deadline.{Deadline}
 use Rattle.link_state.specs.declared.State.{State}
 use Rattle.link_state.specs.declared.Link.{Link}
 use Rattle.link.specs.Frames.{Frame, u_with, stop_act, stop_con, test_act, test_con}
@@ -147,8 +146,9 @@ on_test s times pool now =
     pick (too_many s) (closing too_many_tests s times pool) (accepting false pool (ending false now (tested now (start s times))))
 
 -- a set deadline is due at now or earlier
-abbrev pub is_due : Deadline → ℕ → Bool
-is_due d now = d.on && leb d.at now
+abbrev pub is_due : Option ℕ → ℕ → Bool
+is_due None now = false
+is_due (Some at) now = leb at now
 
 -- t1 of I frames: t1 after the oldest outstanding send time, unset if none is outstanding
 unfoldable pub t1i_due : State → List ℕ → ℕ → Bool
@@ -165,7 +165,7 @@ tick_refusal s times now =
 unfoldable pub ticked_t2 : ℕ → Making → Making
 ticked_t2 now g = pick (is_due g.state.timers.t2 now) (confirm g) g
 
-unfoldable pub ticked_t3 : Deadline → ℕ → Making → Making
+unfoldable pub ticked_t3 : Option ℕ → ℕ → Making → Making
 ticked_t3 t3 now g = pick (is_due t3 now) (tested now g) g
 
 unfoldable pub ticked : State → List ℕ → ℕ → Making

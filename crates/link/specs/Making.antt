@@ -1,6 +1,7 @@
 -- The steps that events are made of. A call in the making is the state and the ring of send times so far, and the frames
 -- that it hands out. A ring has as many places as the list of times is long.
 use Rattle.std.specs.Prelude.{ℕ, zero, suc, ◌+◌, ◌-◌, ◌*◌, ◌%◌, min, Bool, true, ◌&&◌, ◌||◌, not, List, [], ◌∷◌, ◌++◌, length, take, drop, get_or, set, leb, ltb}
+use Rattle.std.specs.Option.{option_or}
 use Rattle.laws.specs.Choice.{pick}
 use Rattle.elements.specs.Refusals.{refusal}
 use Rattle.apdu.specs.Control.{send_number}
@@ -116,7 +117,7 @@ set_t3 now s = with_timers s (record { t1u = s.timers.t1u; t2 = s.timers.t2; t3 
 -- t2 is set if unset
 abbrev pub start_t2 : ℕ → State → State
 start_t2 now s =
-    with_timers s (record { t1u = s.timers.t1u; t2 = pick s.timers.t2.on s.timers.t2 (set_for (now + s.settings.t2)); t3 = s.timers.t3; tests = s.timers.tests })
+    with_timers s (record { t1u = s.timers.t1u; t2 = option_or s.timers.t2 (set_for (now + s.settings.t2)); t3 = s.timers.t3; tests = s.timers.tests })
 
 -- ---- steps
 

@@ -1,21 +1,21 @@
 -- Each step of an event keeps the record within the limits of refusal 19, at the call's clock. Assumes nothing.
 use Prim.Native.Nat.{ℕ, zero, suc, ◌+◌, ◌-◌, ◌%◌, ◌<◌, ◌≤◌, min}
 use mathlib.Core.Path.{◌≡◌, refl, ap}
-use mathlib.Core.Bool.{Bool, true, false, false≢true}
+use mathlib.Core.Bool.{true}
 use mathlib.Core.List.{List}
 use mathlib.Core.Logic.{◌⊎◌, inl, inr}
 use native.Mathlib.Omega.{arith}
 use native.Mathlib.Decide.{dec_lt}
 use lib.ListN.{length, get_or, length-set}
 use lib.Seq.{get_or-set_same, get_or-set_other}
-use Rattle.laws.specs.Choice.{pick}
+use Rattle.std.proofs.Common.{Option, None, Some}
+use Rattle.std.specs.Option.{option_or}
 use Rattle.laws.proofs.Lists.{mod_add, mod_apart}
 use Rattle.link_state.specs.Limits.{sound_link}
 use Rattle.link_state.specs.Opening.{set_for}
 use Rattle.link_state.specs.declared.Settings.{Settings}
 use Rattle.link_state.specs.declared.Window.{Window}
 use Rattle.link_state.specs.declared.Queue.{Queue}
-use Rattle.link_state.specs.declared.Deadline.{Deadline}
 use Rattle.link_state.specs.declared.Timers.{Timers}
 use Rattle.link_state.specs.declared.State.{State}
 use Rattle.link_state.specs.declared.Link.{Link}
@@ -75,8 +75,9 @@ GoodMaking g clock = Good g.state g.times clock
 
 -- ---- there and back
 
-later : (d : Deadline) (a b : ℕ) → a ≤ b → InTime d a → InTime d b
-later d a b h t e = let u = t e in omega arith
+later : (d : Option ℕ) (a b : ℕ) → a ≤ b → InTime d a → InTime d b
+later None a b h t = tt
+later (Some at) a b h t = omega arith
 
 -- a sound link at a later clock
 pub sound_good : (l : Link) (now : ℕ) → length l.times ≡ 32 → length l.state.queue.lengths ≡ 16 → sound_link l ≡ true
@@ -284,29 +285,29 @@ module _ (s : State) (times : List ℕ) (c : ℕ) (g : Good s times c) where
   good_t1u =
       let d = g.timers.deadlines in
       let a = g.settings in
-      good_timers _ (record { tests_high = g.timers.tests_high; deadlines = record { t1u = λ e. omega arith; t2 = d.t2; t3 = d.t3 } })
+      good_timers _ (record { tests_high = g.timers.tests_high; deadlines = record { t1u = omega arith; t2 = d.t2; t3 = d.t3 } })
 
   pub good_t3 : Good (set_t3 c s) times c
   good_t3 =
       let d = g.timers.deadlines in
       let a = g.settings in
-      good_timers _ (record { tests_high = g.timers.tests_high; deadlines = record { t1u = d.t1u; t2 = d.t2; t3 = λ e. omega arith } })
+      good_timers _ (record { tests_high = g.timers.tests_high; deadlines = record { t1u = d.t1u; t2 = d.t2; t3 = omega arith } })
 
   pub good_t2 : Good (start_t2 c s) times c
   good_t2 =
       let d = g.timers.deadlines in
-      good_timers _ (record { tests_high = g.timers.tests_high; deadlines = record { t1u = d.t1u; t2 = either s.timers.t2.on d.t2; t3 = d.t3 } })
+      good_timers _ (record { tests_high = g.timers.tests_high; deadlines = record { t1u = d.t1u; t2 = either s.timers.t2 d.t2; t3 = d.t3 } })
     where
-      either : (b : Bool) → InTime s.timers.t2 c → InTime (pick b s.timers.t2 (set_for (c + s.settings.t2))) c
-      either true h = h
-      either false h = λ e. let a = g.settings in omega arith
+      either : (d : Option ℕ) → InTime d c → InTime (option_or d (set_for (c + s.settings.t2))) c
+      either None h = let a = g.settings in omega arith
+      either (Some at) h = h
 
   pub good_tested : s.timers.tests ≤ 2 → Good (tested_of c s) times c
   unfolding tested_of
   good_tested h =
       let d = g.timers.deadlines in
       let a = g.settings in
-      good_timers _ (record { tests_high = omega arith; deadlines = record { t1u = λ e. omega arith; t2 = d.t2; t3 = λ e. omega arith } })
+      good_timers _ (record { tests_high = omega arith; deadlines = record { t1u = omega arith; t2 = d.t2; t3 = omega arith } })
 
   pub good_confirmed : Good (confirmed_of s) times c
   unfolding confirmed_of
@@ -317,7 +318,7 @@ module _ (s : State) (times : List ℕ) (c : ℕ) (g : Good s times c) where
         window = g.window;
         queue = g.queue;
         recv_high = g.recv_high;
-        timers = record { tests_high = g.timers.tests_high; deadlines = record { t1u = d.t1u; t2 = λ e. absurd (false≢true e); t3 = d.t3 } };
+        timers = record { tests_high = g.timers.tests_high; deadlines = record { t1u = d.t1u; t2 = tt; t3 = d.t3 } };
         clock_high = g.clock_high;
       }
 

@@ -128,7 +128,7 @@ module _ (s : State) (times pool : List ℕ) (now : ℕ) (r : Ready s times now)
   unfolding on_u test_acted test_confirmed
   kept_u u more =
       let t = r.good.timers in
-      let answered : Good (tests_answered s) times now = good_timers s times now r.good _ (record { tests_high = omega arith; deadlines = record { t1u = λ e. absurd (false≢true e); t2 = t.deadlines.t2; t3 = t.deadlines.t3 } }) in
+      let answered : Good (tests_answered s) times now = good_timers s times now r.good _ (record { tests_high = omega arith; deadlines = record { t1u = tt; t2 = t.deadlines.t2; t3 = t.deadlines.t3 } }) in
       kept_pick (eqb (u_octet u) test_act)
       (kept_ending false more pool _ now (become (set_t3 now) (say (u_with test_con) (start s times))) refl (good_t3 s times now r.good) r.full)
       (kept_pick (eqb (u_octet u) test_con)

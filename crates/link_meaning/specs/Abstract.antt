@@ -1,6 +1,7 @@
 -- Document 01, "The link", by totals and lists: no ring, no places, no sequence numbers, no pool.
 -- S is the number of I frames handed out, R of those accepted, A of those confirmed, since opening.
 use Rattle.std.specs.Prelude.{ℕ, ◌+◌, ◌-◌, ◌%◌, Bool, true, false, ◌&&◌, ◌||◌, not, List, [], ◌∷◌, ◌++◌, length, drop, leb, ltb, eqb}
+use Rattle.std.specs.Option.{option_or}
 use Rattle.laws.specs.Choice.{pick}
 use Rattle.laws.specs.Window.{freed}
 use Rattle.elements.specs.Refusals.{refusal, wrong_receive_number, wrong_send_number, u_not_answered, u_timed_out, i_timed_out, too_many_tests, queue_full, not_plain_form}
@@ -122,7 +123,7 @@ t1u_from now s t = record { t1u = set_for (now + s.t1); t2 = t.t2; t3 = t.t3; te
 
 -- t2 is set if unset
 abbrev pub t2_from : ℕ → Settings → Timers → Timers
-t2_from now s t = record { t1u = t.t1u; t2 = pick t.t2.on t.t2 (set_for (now + s.t2)); t3 = t.t3; tests = t.tests }
+t2_from now s t = record { t1u = t.t1u; t2 = option_or t.t2 (set_for (now + s.t2)); t3 = t.t3; tests = t.tests }
 
 -- t3 is set
 abbrev pub t3_from : ℕ → Settings → Timers → Timers

@@ -13,7 +13,7 @@ use apdu::{reading, writing};
 use elements::refusals::Refusal;
 use link::answers::{Called, Made, Step};
 use link_state::acknowledging::AckAnswer;
-use link_state::{Deadline, Link, State, acknowledging, limits};
+use link_state::{Link, State, acknowledging};
 use link_steps::{steps, waiting};
 
 // The oldest frames are confirmed, and what waits goes out as far as the window takes it.
@@ -54,18 +54,13 @@ fn on_s(
     steps::accept(ended, false)
 }
 
-fn receive_one(s: State) -> State
+fn receive_one(mut s: State) -> State
     requires { (s.receive.next.0 ≤ 32767) × (s.receive.unconfirmed ≤ 32767) }
     ensures { result ≡ received s }
 {
-    let number = (s.receive.next.0 + 1) % 32768;
-    let count = s.receive.unconfirmed + 1;
-    let mut receive = s.receive;
-    receive.next.0 = number;
-    receive.unconfirmed = count;
-    let mut m = s;
-    m.receive = receive;
-    m
+    s.receive.next.0 = (s.receive.next.0 + 1) % 32768;
+    s.receive.unconfirmed += 1;
+    s
 }
 
 fn on_i(
@@ -97,16 +92,12 @@ fn on_i(
 }
 
 // Test con: no test is open any more.
-fn tests_answered(s: State) -> State
+fn tests_answered(mut s: State) -> State
     ensures { result ≡ tests_answered s }
 {
-    let unset = Deadline { on: false, at: 0 };
-    let mut timers = s.timers;
-    timers.t1u = unset;
-    timers.tests = 0;
-    let mut m = s;
-    m.timers = timers;
-    m
+    s.timers.t1u = None;
+    s.timers.tests = 0;
+    s
 }
 
 // Test act is answered by test con.
@@ -188,11 +179,7 @@ pub fn receive(l: Link, pool: &[u8], out: &mut [u8], f: &[u8], more: bool, momen
     ensures value { result ≡ called_of (called (frame f.now more) l pool.now (length out.old) moment) }
     ensures out_after { out.new ≡ sets out.old 0 (wire (called (frame f.now more) l pool.now (length out.old) moment).frames) }
 {
-    let refused = limits::check_call(l, out.len(), pool.len(), moment);
-    if !refused.is_none() {
-        return steps::refuse_call(l, refused);
-    }
-    let mut times = l.times;
-    let step = on_frame(l.state, &mut times, pool, out, f, more, moment);
-    steps::end_call(times, step)
+    steps::call(l, pool.len(), out, moment, |s, times, out| {
+        on_frame(s, times, pool, out, f, more, moment)
+    })
 }

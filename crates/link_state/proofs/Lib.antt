@@ -1,2 +1,3 @@
 pub mod Acks
+pub mod Chains
 pub mod Sound

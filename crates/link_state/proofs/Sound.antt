@@ -1,22 +1,22 @@
 -- What refusal 19 looks at, clause by clause and in both directions; what a passed check gives; a link just opened is sound. Assumes nothing.
 use Prim.Native.Nat.{ℕ, ◌+◌, ◌<◌, ◌≤◌}
-use mathlib.Core.Path.{◌≡◌}
+use mathlib.Core.Path.{◌≡◌, refl}
 use mathlib.Core.Bool.{true, false, ◌||◌, and-true}
 use mathlib.Core.Logic.{◌⊎◌, ◌↔◌}
 use native.Mathlib.Omega.{arith}
 use lib.Dec.{leb, eqb, ltb}
 use borrow.Author.Tests.{leb-true, le-leb, ltb-false}
+use Rattle.std.proofs.Common.{Option, None, Some}
 use Rattle.laws.specs.Lists.{every}
 use Rattle.laws.proofs.Choices as choices
 use Rattle.link_state.specs.Limits.{sound_settings, sound_counts, length_at, sound_length, sound_lengths, time_at, sound_time_at, sound_times, sound_deadline, sound_timers, sound_link, call_refusal}
 use Rattle.link_state.specs.Opening.{fresh_link, set_for, opened, open_refusal}
 use Rattle.link_state.specs.declared.Settings.{Settings}
 use Rattle.link_state.specs.declared.Queue.{Queue}
-use Rattle.link_state.specs.declared.Deadline.{Deadline}
 use Rattle.link_state.specs.declared.Timers.{Timers}
 use Rattle.link_state.specs.declared.State.{State}
 use Rattle.link_state.specs.declared.Link.{Link}
-use Rattle.laws.proofs.Clauses.{leb_iff, eqb_iff, and_iff, or_iff, set_iff, every_iff}
+use Rattle.laws.proofs.Clauses.{leb_iff, eqb_iff, and_iff, or_iff, every_iff}
 
 -- ---- settings and counts
 
@@ -98,8 +98,9 @@ Lengths q = (i : ℕ) → i < q.count → (6 ≤ length_at q i) × (length_at q 
 abbrev pub Times : Link → Type 0
 Times l = (i : ℕ) → i < l.state.window.held → time_at l i ≤ l.state.clock
 
-abbrev pub InTime : Deadline → ℕ → Type 0
-InTime d clock = d.on ≡ true → d.at ≤ clock + 172800000
+abbrev pub InTime : Option ℕ → ℕ → Type 0
+InTime None clock = Unit {0}
+InTime (Some at) clock = at ≤ clock + 172800000
 
 pub record Deadlines (t : Timers) (clock : ℕ) : Type 0 where
   pub t1u : InTime t.t1u clock
@@ -118,8 +119,9 @@ times_iff l =
     let each = every_iff (sound_time_at l) l.state.window.held in
     ((λ e i h. leb-true _ _ (each.0 e i h)), (λ f. each.1 (λ i h. le-leb _ _ (f i h))))
 
-deadline_iff : (d : Deadline) (clock : ℕ) → (sound_deadline d clock ≡ true) ↔ InTime d clock
-deadline_iff d clock = set_iff d.on (leb d.at (clock + 172800000)) (leb_iff d.at (clock + 172800000))
+deadline_iff : (d : Option ℕ) (clock : ℕ) → (sound_deadline d clock ≡ true) ↔ InTime d clock
+deadline_iff None clock = ((λ e. tt), (λ h. refl))
+deadline_iff (Some at) clock = leb_iff at (clock + 172800000)
 
 deadlines_iff : (t : Timers) (clock : ℕ) → (sound_timers t clock ≡ true) ↔ Deadlines t clock
 unfolding sound_timers

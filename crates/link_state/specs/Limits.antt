@@ -1,11 +1,10 @@
 -- Document 01, "The link": the limits of settings and record (refusal 19), and what every call checks.
-use Rattle.std.specs.Prelude.{ℕ, ◌+◌, ◌%◌, Bool, ◌&&◌, ◌||◌, not, leb, eqb, ltb, get_or}
+use Rattle.std.specs.Prelude.{ℕ, ◌+◌, ◌%◌, Bool, true, Option, None, Some, ◌&&◌, ◌||◌, leb, eqb, ltb, get_or}
 use Rattle.laws.specs.Choice.{pick}
 use Rattle.laws.specs.Lists.{every}
 use Rattle.elements.specs.Refusals.{outside_limits, link_closed, link_output_too_short, pool_too_short, clock_too_late, clock_went_back}
 use Rattle.link_state.specs.declared.Settings.{Settings}
 use Rattle.link_state.specs.declared.Queue.{Queue}
-use Rattle.link_state.specs.declared.Deadline.{Deadline}
 use Rattle.link_state.specs.declared.Timers.{Timers}
 use Rattle.link_state.specs.declared.State.{State}
 use Rattle.link_state.specs.declared.Link.{Link}
@@ -62,8 +61,9 @@ unfoldable pub sound_times : Link → Bool
 sound_times l = every (sound_time_at l) l.state.window.held
 
 -- a set deadline is at most 48 hours after the clock
-abbrev pub sound_deadline : Deadline → ℕ → Bool
-sound_deadline d clock = not d.on || leb d.at (clock + 172800000)
+abbrev pub sound_deadline : Option ℕ → ℕ → Bool
+sound_deadline None clock = true
+sound_deadline (Some at) clock = leb at (clock + 172800000)
 
 unfoldable pub sound_timers : Timers → ℕ → Bool
 sound_timers t clock = sound_deadline t.t1u clock && sound_deadline t.t2 clock && sound_deadline t.t3 clock

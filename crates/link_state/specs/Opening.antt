@@ -1,23 +1,22 @@
 -- Opening starts data transfer: all counts 0, t3 set, other timers unset. It refuses 19, then 22.
-use Rattle.std.specs.Prelude.{ℕ, ◌+◌, true, false, eqb, ltb, replicate}
+use Rattle.std.specs.Prelude.{ℕ, ◌+◌, false, Option, None, Some, eqb, ltb, replicate}
 use Rattle.laws.specs.Choice.{pick}
 use Rattle.elements.specs.Refusals.{refusal, outside_limits, clock_too_late}
 use Rattle.link_state.specs.Limits.{sound_settings}
 use Rattle.link_state.specs.declared.Settings.{Settings}
-use Rattle.link_state.specs.declared.Deadline.{Deadline}
 use Rattle.link_state.specs.declared.Link.{Link}
 use Rattle.link_state.specs.declared.opening.OpenedLink.{OpenedLink}
 use Rattle.link_state.specs.declared.opening.OpenAnswer.{OpenAnswer}
 
 -- a deadline that is not set, and one that is due from a moment on
-abbrev pub unset : Deadline
-unset = record { on = false; at = 0 }
+abbrev pub unset : Option ℕ
+unset = None
 
-abbrev pub set_for : ℕ → Deadline
-set_for at = record { on = true; at = at }
+abbrev pub set_for : ℕ → Option ℕ
+set_for at = Some at
 
 -- nothing outstanding, waiting or received
-unfoldable pub fresh_link : Settings → Deadline → ℕ → Link
+unfoldable pub fresh_link : Settings → Option ℕ → ℕ → Link
 fresh_link settings t3 clock =
     record {
       times = replicate 32 0;

@@ -32,12 +32,10 @@ pub fn acknowledge(next: SendNumber, held: usize, received: ReceiveNumber) -> Ac
     }
     let number = received.0 as usize;
     let oldest = (next.0 as usize + 32768 - held) % 32768;
-    let mut freed: usize = 0;
-    while freed <= held {
+    for freed in 0..held + 1 {
         if (oldest + freed) % 32768 == number {
             return AckAnswer::Frees(freed);
         }
-        freed += 1;
     }
     AckAnswer::Refused(Refusal::WRONG_RECEIVE_NUMBER)
 }

@@ -43,19 +43,12 @@ pub struct Receive {
     pub unconfirmed: u16,
 }
 
-// A time at which something is due, or unset.
-#[derive(Clone, Copy)]
-pub struct Deadline {
-    pub on: bool,
-    pub at: u64,
-}
-
-// t1 of U frames, t2 and t3, and how many test frames are open.
+// t1 of U frames, t2 and t3, each the time at which something is due, if set, and how many test frames are open.
 #[derive(Clone, Copy)]
 pub struct Timers {
-    pub t1u: Deadline,
-    pub t2: Deadline,
-    pub t3: Deadline,
+    pub t1u: Option<u64>,
+    pub t2: Option<u64>,
+    pub t3: Option<u64>,
     pub tests: u8,
 }
 

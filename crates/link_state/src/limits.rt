@@ -3,7 +3,7 @@ ghost use Rattle.std.specs.Prelude.{◌≡◌, ◌≤◌};
 ghost use Rattle.elements.specs.Refusals.{refusal};
 ghost use Rattle.link_state.specs.Limits.{sound_settings, sound_counts, sound_deadline, sound_timers, sound_times, sound_lengths, sound_link, call_refusal};
 
-use crate::{Deadline, Link, Queue, Settings, State, Timers};
+use crate::{Link, Queue, Settings, State, Timers};
 use elements::refusals::Refusal;
 
 // 48 hours.
@@ -57,42 +57,25 @@ fn sound_lengths(q: Queue) -> bool
     requires { (q.count ≤ 16) × (q.place ≤ 15) }
     ensures { result ≡ sound_lengths q }
 {
-    let count = q.count;
-    let place = q.place;
-    let mut sound = true;
-    let mut i: usize = 0;
-    while i < count {
-        let at = (place + i) % 16;
-        let n = q.lengths[at];
-        sound = sound & ((6 <= n) & (n <= 249));
-        i += 1;
-    }
-    sound
+    (0..q.count).all(|i| {
+        let n = q.lengths[(q.place + i) % 16];
+        (6 <= n) & (n <= 249)
+    })
 }
 
 fn sound_times(l: Link) -> bool
     requires { (l.state.window.held ≤ 32) × (l.state.window.first ≤ 31) }
     ensures { result ≡ sound_times l }
 {
-    let held = l.state.window.held;
-    let first = l.state.window.first;
-    let clock = l.state.clock;
-    let mut sound = true;
-    let mut i: usize = 0;
-    while i < held {
-        let at = (first + i) % 32;
-        let t = l.times[at];
-        sound = sound & (t <= clock);
-        i += 1;
-    }
-    sound
+    let s = l.state;
+    (0..s.window.held).all(|i| l.times[(s.window.first + i) % 32] <= s.clock)
 }
 
-fn sound_deadline(d: Deadline, clock: u64) -> bool
+fn sound_deadline(d: Option<u64>, clock: u64) -> bool
     requires { clock ≤ 281474976710655 }
     ensures { result ≡ sound_deadline d clock }
 {
-    !d.on | (d.at <= clock + MAX_TIME)
+    d.is_none_or(|at| at <= clock + MAX_TIME)
 }
 
 #[tactic(auto, unfolding(crate::specs::Limits::sound_timers))]

@@ -3,7 +3,7 @@ ghost use Rattle.std.specs.Prelude.{◌≡◌};
 ghost use Rattle.elements.specs.Refusals.{refusal};
 ghost use Rattle.link_state.specs.Opening.{fresh_link, refused_opening, opened, open_number};
 
-use crate::{Deadline, Link, Queue, Receive, Settings, State, Status, Timers, Window, limits};
+use crate::{Link, Queue, Receive, Settings, State, Status, Timers, Window, limits};
 use apdu::frame::{ReceiveNumber, SendNumber};
 use elements::refusals::Refusal;
 
@@ -33,10 +33,9 @@ impl OpenAnswer {
 
 // A link with nothing outstanding, waiting or received.
 #[tactic(auto, unfolding(crate::specs::Opening::fresh_link))]
-fn fresh(settings: Settings, t3: Deadline, clock: u64) -> Link
+fn fresh(settings: Settings, t3: Option<u64>, clock: u64) -> Link
     ensures { result ≡ fresh_link settings t3 clock }
 {
-    let unset = Deadline { on: false, at: 0 };
     let state = State {
         queue: Queue {
             lengths: [0; 16],
@@ -54,8 +53,8 @@ fn fresh(settings: Settings, t3: Deadline, clock: u64) -> Link
             unconfirmed: 0,
         },
         timers: Timers {
-            t1u: unset,
-            t2: unset,
+            t1u: None,
+            t2: None,
             t3,
             tests: 0,
         },
@@ -83,7 +82,7 @@ fn refused(r: Refusal) -> OpenedLink
         t2: 0,
         t3: 0,
     };
-    let link = fresh(settings, Deadline { on: false, at: 0 }, 0);
+    let link = fresh(settings, None, 0);
     OpenedLink {
         link,
         answer: OpenAnswer::Refused(r),
@@ -99,10 +98,7 @@ pub fn open(settings: Settings, moment: u64) -> OpenedLink
     if limits::MAX_CLOCK < moment {
         return refused(Refusal::CLOCK_TOO_LATE);
     }
-    let t3 = Deadline {
-        on: true,
-        at: moment + settings.t3,
-    };
+    let t3 = Some(moment + settings.t3);
     OpenedLink {
         link: fresh(settings, t3, moment),
         answer: OpenAnswer::Opened,

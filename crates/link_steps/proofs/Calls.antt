@@ -1,9 +1,10 @@
 -- A call as a whole: what a passed check gives the event, and what the call answers, refused by its check or not. Assumes nothing.
 use Prim.Native.Nat.{ℕ, ◌+◌, ◌%◌, ◌≤◌}
-use mathlib.Core.Path.{◌≡◌, subst, ◌∙◌}
-use mathlib.Core.Bool.{Bool, false}
+use mathlib.Core.Path.{◌≡◌, refl, subst, ◌∙◌}
+use mathlib.Core.Bool.{Bool, true, false}
 use mathlib.Core.List.{List}
 use native.Mathlib.Omega.{arith}
+use borrow.Author.Tests.{eqb-true}
 use lib.Dec.{eqb}
 use lib.ListN.{length, get_or}
 use lib.Seq.{sets}
@@ -17,7 +18,7 @@ use Rattle.link.specs.declared.answers.Called.{Called}
 use Rattle.link.specs.declared.answers.Step.{Step}
 use Rattle.link.specs.Frames.{wire}
 use Rattle.link.specs.Events.{Event, refusing, event_outcome, called}
-use Rattle.link.specs.Answering.{Does, DoesSend, Calm, Aged, Open, answer_of, step_for, called_of, refused_call, call_of}
+use Rattle.link.specs.Answering.{Does, DoesSend, Calm, Aged, Open, answer_of, step_for, called_of, refused_call, call_of, Comes}
 
 -- ---- a passed check
 
@@ -96,3 +97,23 @@ module _ (e : Event) (l : Link) (pool out : List ℕ) (now : ℕ) where
         × (out₁ ≡ sets out 0 (wire (called e l pool (length out) now).frames))
     unfolding called
     call_sends d = let done = call_does d.does in (done.0, rw passes d.pool, done.1)
+
+  -- an event that `call` runs
+  pub call_comes : (Runs : Step → List ℕ → List ℕ → Type 0) {a : Called} {out₁ : List ℕ}
+      → Comes (call_refusal l (length out) (length pool) now) l Runs out a out₁
+      → ((r : Step) (ts₁ : List ℕ) → Runs r ts₁ out₁ → Does (event_outcome e l.state l.times pool now) out r ts₁ out₁)
+      → (a ≡ called_of (called e l pool (length out) now))
+      × (out₁ ≡ sets out 0 (wire (called e l pool (length out) now).frames))
+  unfolding called called_of answer_of refusing wire
+  call_comes Runs {a} {out₁} comes does = by (eqb (call_refusal l (length out) (length pool) now) 0) refl
+    where
+      by : (b : Bool) → eqb (call_refusal l (length out) (length pool) now) 0 ≡ b
+          → (a ≡ called_of (called e l pool (length out) now))
+          × (out₁ ≡ sets out 0 (wire (called e l pool (length out) now).frames))
+      by true test =
+          let none = eqb-true _ 0 test in
+          let c = comes.passes none in
+          call_does none c.3 (does c.0 c.1 c.2)
+      by false test =
+          let c = comes.refuses test in
+          (c.0 ∙ rw test (rw test), c.1 ∙ rw test)

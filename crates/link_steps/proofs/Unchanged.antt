@@ -4,12 +4,12 @@ use mathlib.Core.Path.{◌≡◌, refl, sym, ◌∙◌}
 use mathlib.Core.Bool.{Bool, true, false}
 use mathlib.Core.List.{List}
 use lib.Dec.{eqb}
+use Rattle.std.proofs.Common.{Option}
 use Rattle.laws.specs.Choice.{pick}
 use Rattle.elements.specs.Refusals.{too_many_tests, u_not_answered}
 use Rattle.apdu.specs.Control.{u_octet}
 use Rattle.apdu.specs.declared.frame.UFrame.{UFrame}
 use Rattle.link_state.specs.declared.State.{State}
-use Rattle.link_state.specs.declared.Deadline.{Deadline}
 use Rattle.link.specs.declared.answers.Step.{Step}
 use Rattle.link.specs.Frames.{u_with, stop_act, stop_con, test_act, test_con}
 use Rattle.link.specs.Making.{Making, with_clock, set_t1u, set_t3, become, say, confirm, tested, ending, due}
@@ -48,7 +48,7 @@ module _ (s : State) (ts ps : List ℕ) (now : ℕ) where
       go true = refl
       go false = refl
 
-  t3_times : (t3 : Deadline) (g : Making) → (ticked_t3 t3 now g).times ≡ g.times
+  t3_times : (t3 : Option ℕ) (g : Making) → (ticked_t3 t3 now g).times ≡ g.times
   unfolding ticked_t3 tested
   t3_times t3 g = go (is_due t3 now)
     where

@@ -4,12 +4,14 @@ ghost use Rattle.std.proofs.lemmas.List.Edits.{sets};
 ghost use Rattle.apdu.specs.Writing.{start_octets, s_octets};
 ghost use Rattle.link.specs.Making.{freed_of, sent_of, confirmed_of, due, tested_of, ending, set_t1u, set_t3, start_t2, shut, hand_out};
 ghost use Rattle.link.specs.Events.{start};
-ghost use Rattle.link.specs.Answering.{made_of, done_step, refused_step, refused_call, call_of, Makes, HandsOut, Timed, CanSend};
+ghost use Rattle.link_state.specs.Limits.{call_refusal};
+ghost use Rattle.link.specs.Answering.{CanRun, Ran, Comes, made_of, done_step, refused_step, refused_call, call_of, Makes, HandsOut, Timed, CanSend};
 
+use apdu::frame::SendNumber;
 use apdu::writing;
 use elements::refusals::Refusal;
 use link::answers::{Called, Done, LinkAnswer, Made, Step};
-use link_state::{Deadline, Link, State, Status};
+use link_state::{Link, Receive, State, Status, Window, limits};
 
 pub const STOP_ACT: u16 = 0x13;
 
@@ -25,13 +27,14 @@ pub fn accept(m: Made, came: bool) -> Step
 {
     let s = m.state;
     let full = s.settings.k <= s.window.held;
-    let done = Done {
-        written: m.end,
-        full,
-        came,
-    };
-    let answer = LinkAnswer::Done(done);
-    Step { state: s, answer }
+    Step {
+        state: s,
+        answer: LinkAnswer::Done(Done {
+            written: m.end,
+            full,
+            came,
+        }),
+    }
 }
 
 #[tactic(auto, unfolding(link::specs::Answering::refused_step))]
@@ -45,16 +48,14 @@ pub fn refuse(s: State, r: Refusal) -> Step
 }
 
 #[tactic(auto, unfolding(link::specs::Making::shut))]
-pub fn end_link(s: State, reason: Refusal) -> State
+pub fn end_link(mut s: State, reason: Refusal) -> State
     ensures { result ≡ shut reason.0 s }
 {
-    let status = Status {
+    s.status = Status {
         closed: true,
         reason,
     };
-    let mut m = s;
-    m.status = status;
-    m
+    s
 }
 
 // A refusal that ends the link: only the closed mark and the reason are set.
@@ -84,77 +85,75 @@ pub fn end_call(times: [u64; 32], step: Step) -> Called
     Called { link, answer }
 }
 
-pub fn set_t1u(s: State, moment: u64) -> State
+// A call whose pool is only read: its check, then the event on a copy of the ring. `send` writes the pool too, so it has a
+// body of its own: nothing is known of what a closure captured and wrote.
+pub fn call<F: FnOnce(State, &mut [u64], &mut [u8]) -> Step>(
+    l: Link,
+    pool: usize,
+    out: &mut [u8],
+    moment: u64,
+    event: F,
+) -> Called
+    requires { call_refusal l (length out.old) pool moment ≡ 0 → CanRun F.FnOnce event l.state l.times out.old }
+    ensures { Comes (call_refusal l (length out.old) pool moment) l (Ran F.FnOnce event l.state l.times out.old) out.old result out.new }
+{
+    let refused = limits::check_call(l, out.len(), pool, moment);
+    if !refused.is_none() {
+        return refuse_call(l, refused);
+    }
+    let mut times = l.times;
+    let step = event(l.state, &mut times, out);
+    end_call(times, step)
+}
+
+pub fn set_t1u(mut s: State, moment: u64) -> State
     requires { Timed s moment }
     ensures { result ≡ set_t1u moment s }
 {
-    let at = moment + s.settings.t1;
-    let deadline = Deadline { on: true, at };
-    let mut timers = s.timers;
-    timers.t1u = deadline;
-    let mut m = s;
-    m.timers = timers;
-    m
+    s.timers.t1u = Some(moment + s.settings.t1);
+    s
 }
 
-pub fn set_t3(s: State, moment: u64) -> State
+pub fn set_t3(mut s: State, moment: u64) -> State
     requires { Timed s moment }
     ensures { result ≡ set_t3 moment s }
 {
-    let at = moment + s.settings.t3;
-    let deadline = Deadline { on: true, at };
-    let mut timers = s.timers;
-    timers.t3 = deadline;
-    let mut m = s;
-    m.timers = timers;
-    m
+    s.timers.t3 = Some(moment + s.settings.t3);
+    s
 }
 
 // t2 is set if unset.
-pub fn start_t2(s: State, moment: u64) -> State
+pub fn start_t2(mut s: State, moment: u64) -> State
     requires { Timed s moment }
     ensures { result ≡ start_t2 moment s }
 {
-    if s.timers.t2.on {
-        return s;
-    }
-    let at = moment + s.settings.t2;
-    let deadline = Deadline { on: true, at };
-    let mut timers = s.timers;
-    timers.t2 = deadline;
-    let mut m = s;
-    m.timers = timers;
-    m
+    s.timers.t2 = s.timers.t2.or(Some(moment + s.settings.t2));
+    s
 }
 
 #[tactic(auto, unfolding(link::specs::Making::freed_of))]
-pub fn free(s: State, places: usize, freed: usize) -> State
+pub fn free(mut s: State, places: usize, freed: usize) -> State
     requires { (freed ≤ s.window.held) × (s.window.held ≤ places) × (s.window.first < places) × (places ≤ 32767) }
     ensures { result ≡ freed_of s places freed }
 {
-    let first = (s.window.first + freed) % places;
-    let held = s.window.held - freed;
-    let mut m = s;
-    m.window.first = first;
-    m.window.held = held;
-    m
+    s.window.first = (s.window.first + freed) % places;
+    s.window.held -= freed;
+    s
 }
 
 // An S frame, unconfirmed count 0, t2 unset.
-pub fn confirm(s: State, out: &mut [u8], at: usize) -> Made
+pub fn confirm(mut s: State, out: &mut [u8], at: usize) -> Made
     requires { (at + 6 ≤ length out.old) × (s.receive.next.0 ≤ 32767) }
     ensures value { result ≡ made_of (confirmed_of s) (at + 6) }
     ensures out_after { out.new ≡ sets out.old at (s_octets s.receive.next.0) }
 {
     writing::put_start(out, at, 4, 1, s.receive.next.0 * 2);
-    let unset = Deadline { on: false, at: 0 };
-    let mut timers = s.timers;
-    timers.t2 = unset;
-    let mut m = s;
-    m.timers = timers;
-    m.receive.unconfirmed = 0;
-    let end = at + 6;
-    Made { state: m, end }
+    s.timers.t2 = None;
+    s.receive.unconfirmed = 0;
+    Made {
+        state: s,
+        end: at + 6,
+    }
 }
 
 #[tactic(auto, unfolding(link::specs::Making::due))]
@@ -166,45 +165,32 @@ fn must_confirm(s: State, more: bool) -> bool
 }
 
 // The end of every accepted call that does not end the link: the clock, then the rule of confirming.
-pub fn finish(s: State, out: &mut [u8], at: usize, more: bool, moment: u64) -> Made
+pub fn finish(mut s: State, out: &mut [u8], at: usize, more: bool, moment: u64) -> Made
     requires { (at + 6 ≤ length out.old) × (s.receive.next.0 ≤ 32767) }
     ensures { (ts : List ℕ) → Makes (ending more moment (start s ts)) at out.old result out.new }
 {
-    let mut m = s;
-    m.clock = moment;
+    s.clock = moment;
     if must_confirm(s, more) {
-        return confirm(m, out, at);
+        return confirm(s, out, at);
     }
-    Made { state: m, end: at }
+    Made { state: s, end: at }
 }
 
 // A test act goes out: one more open, t3 and t1 of U frames set.
 #[tactic(auto, unfolding(link::specs::Making::tested_of))]
-pub fn send_test(s: State, out: &mut [u8], at: usize, moment: u64) -> Made
+pub fn send_test(mut s: State, out: &mut [u8], at: usize, moment: u64) -> Made
     requires { (at + 6 ≤ length out.old) × (s.timers.tests ≤ 3) × Timed s moment }
     ensures value { result ≡ made_of (tested_of moment s) (at + 6) }
     ensures out_after { out.new ≡ sets out.old at (start_octets 4 67 0) }
 {
-    let end = at + 6;
     writing::put_start(out, at, 4, TEST_ACT, 0);
-    let t1_end = moment + s.settings.t1;
-    let t3_end = moment + s.settings.t3;
-    let tests = s.timers.tests + 1;
-    let t1u = Deadline {
-        on: true,
-        at: t1_end,
-    };
-    let t3 = Deadline {
-        on: true,
-        at: t3_end,
-    };
-    let mut timers = s.timers;
-    timers.t1u = t1u;
-    timers.t3 = t3;
-    timers.tests = tests;
-    let mut m = s;
-    m.timers = timers;
-    Made { state: m, end }
+    s.timers.t1u = Some(moment + s.settings.t1);
+    s.timers.t3 = Some(moment + s.settings.t3);
+    s.timers.tests += 1;
+    Made {
+        state: s,
+        end: at + 6,
+    }
 }
 
 // One more frame is outstanding, and nothing is unconfirmed.
@@ -212,15 +198,18 @@ fn sent(s: State) -> State
     requires { (s.window.held ≤ 32767) × (s.window.next.0 ≤ 32767) }
     ensures { result ≡ sent_of s }
 {
-    let held = s.window.held + 1;
-    let number = (s.window.next.0 + 1) % 32768;
-    let mut window = s.window;
-    window.held = held;
-    window.next.0 = number;
-    let mut after = s;
-    after.window = window;
-    after.receive.unconfirmed = 0;
-    after
+    State {
+        window: Window {
+            held: s.window.held + 1,
+            next: SendNumber((s.window.next.0 + 1) % 32768),
+            ..s.window
+        },
+        receive: Receive {
+            unconfirmed: 0,
+            ..s.receive
+        },
+        ..s
+    }
 }
 
 // An I frame with this ASDU goes out; its send time is the call's.

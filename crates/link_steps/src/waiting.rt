@@ -12,35 +12,27 @@ use link_state::State;
 // Octets of a slot.
 const SLOT: usize = 249;
 
-pub fn enqueue(s: State, pool: &mut [u8], asdu: &[u8]) -> State
+pub fn enqueue(mut s: State, pool: &mut [u8], asdu: &[u8]) -> State
     requires { (s.queue.place ≤ 15) × (s.queue.count ≤ 15) × (length asdu.now ≤ 249) × (3984 ≤ length pool.old) }
     ensures value { result ≡ with_queue s (queued s.queue (length asdu.now)) }
     ensures pool_after { pool.new ≡ sets pool.old (free_slot s.queue * 249) asdu.now }
 {
-    let size = asdu.len();
-    let count = s.queue.count;
-    let place = (s.queue.place + count) % 16;
+    let place = (s.queue.place + s.queue.count) % 16;
     laws::put_octets(pool, place * SLOT, asdu);
-    let mut q = s.queue;
-    q.lengths[place] = size;
-    q.count = count + 1;
-    let mut m = s;
-    m.queue = q;
-    m
+    s.queue.lengths[place] = asdu.len();
+    s.queue.count += 1;
+    s
 }
 
 // The queue without its first.
 #[tactic(auto, unfolding(link::specs::Making::shifted))]
-fn shift(s: State) -> State
+fn shift(mut s: State) -> State
     requires { (s.queue.place ≤ 15) × (1 ≤ s.queue.count) }
     ensures { result ≡ with_queue s (shifted s.queue) }
 {
-    let place = (s.queue.place + 1) % 16;
-    let count = s.queue.count - 1;
-    let mut m = s;
-    m.queue.place = place;
-    m.queue.count = count;
-    m
+    s.queue.place = (s.queue.place + 1) % 16;
+    s.queue.count -= 1;
+    s
 }
 
 // The first that waits goes out.
@@ -48,11 +40,9 @@ fn let_out(s: State, times: &mut [u64], pool: &[u8], out: &mut [u8], at: usize, 
     requires { CanLetOut s (length times.old) (length pool.now) (length out.old) at }
     ensures { HandsOut (let_out moment pool.now (start s times.old)) at out.old result times.new out.new }
 {
-    let q = s.queue;
-    let place = q.place;
-    let size = q.lengths[place];
+    let place = s.queue.place;
     let from = place * SLOT;
-    let to = from + size;
+    let to = from + s.queue.lengths[place];
     let made = steps::hand_out(s, times, out, at, &pool[from..to], moment);
     Made {
         state: shift(made.state),
@@ -65,29 +55,19 @@ fn flush(s: State, times: &mut [u64], pool: &[u8], out: &mut [u8], n: usize, mom
     requires { CanFlush s n (length times.old) (length pool.now) (length out.old) }
     ensures { HandsOut (flushed n moment pool.now (start s times.old)) 0 out.old result times.new out.new }
 {
-    let mut m = s;
-    let mut at: usize = 0;
-    let mut i: usize = 0;
-    while i < n {
-        let made = let_out(m, &mut *times, pool, &mut *out, at, moment);
-        let left = made.state;
-        m = left;
-        at = made.end;
-        i += 1;
+    let mut made = Made { state: s, end: 0 };
+    for _ in 0..n {
+        made = let_out(made.state, &mut *times, pool, &mut *out, made.end, moment);
     }
-    Made { state: m, end: at }
+    made
 }
 
+#[tactic(auto, unfolding(link::specs::Making::room))]
 fn room_of(s: State) -> usize
     requires { s.window.held ≤ s.settings.k }
     ensures { result ≡ room s }
 {
-    let open = s.settings.k - s.window.held;
-    let count = s.queue.count;
-    if count <= open {
-        return count;
-    }
-    open
+    s.queue.count.min(s.settings.k - s.window.held)
 }
 
 pub fn send_waiting(s: State, times: &mut [u64], pool: &[u8], out: &mut [u8], moment: u64) -> Made

@@ -5,10 +5,10 @@ use mathlib.Core.Bool.{Bool, true, false}
 use mathlib.Core.List.{List, append-nil}
 use native.Mathlib.Omega.{arith}
 use lib.ListN.{length}
+use Rattle.std.proofs.Common.{Option}
 use Rattle.laws.specs.Choice.{pick}
 use Rattle.apdu.specs.Control.{u_of}
 use Rattle.link_state.specs.declared.State.{State}
-use Rattle.link_state.specs.declared.Deadline.{Deadline}
 use Rattle.link.specs.Frames.{Frame, s_frame, u_with, test_act, octets_of, wire}
 use Rattle.link.specs.Making.{confirm, confirmed_of, tested, tested_of}
 use Rattle.link.specs.Events.{start, is_due, ticked_t2, ticked_t3}
@@ -34,7 +34,7 @@ module _ (s : State) (ts : List ℕ) (outLen now : ℕ) where
       go true = rw (wire_one (s_frame s.receive.next.0), s_long s.receive.next.0) (omega arith)
       go false = omega arith
 
-  pub short_t3 : (t3 : Deadline) → length (wire (ticked_t3 t3 now (start s ts)).frames) ≤ 6
+  pub short_t3 : (t3 : Option ℕ) → length (wire (ticked_t3 t3 now (start s ts)).frames) ≤ 6
   unfolding ticked_t3 tested octets_of wire
   short_t3 t3 = go (is_due t3 now)
     where
@@ -42,7 +42,7 @@ module _ (s : State) (ts : List ℕ) (outLen now : ℕ) where
       go true = rw (wire_one (u_with test_act), u_long (u_of test_act)) (omega arith)
       go false = omega arith
 
-  pub next_t3 : (t3 : Deadline) → (ticked_t3 t3 now (start s ts)).state.receive.next.0 ≡ s.receive.next.0
+  pub next_t3 : (t3 : Option ℕ) → (ticked_t3 t3 now (start s ts)).state.receive.next.0 ≡ s.receive.next.0
   unfolding ticked_t3 tested tested_of
   next_t3 t3 = go (is_due t3 now)
     where
@@ -50,7 +50,7 @@ module _ (s : State) (ts : List ℕ) (outLen now : ℕ) where
       go true = refl
       go false = refl
 
-pub ticked_t3_appends : (t3 : Deadline) (now : ℕ) → Appends (ticked_t3 t3 now)
+pub ticked_t3_appends : (t3 : Option ℕ) (now : ℕ) → Appends (ticked_t3 t3 now)
 unfolding ticked_t3 tested
 ticked_t3_appends t3 now g = go (is_due t3 now)
   where

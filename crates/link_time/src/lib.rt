@@ -11,7 +11,7 @@ ghost use Rattle.link.specs.Answering.{Answers, Makes, Calm, Aged, called_of};
 use apdu::writing;
 use elements::refusals::Refusal;
 use link::answers::{Called, Made, Step};
-use link_state::{Deadline, Link, State, limits};
+use link_state::{Link, State};
 use link_steps::steps;
 
 fn on_stop(s: State, out: &mut [u8], moment: u64) -> Step
@@ -37,10 +37,10 @@ fn on_test(s: State, out: &mut [u8], moment: u64) -> Step
     steps::accept(ended, false)
 }
 
-fn is_due(d: Deadline, moment: u64) -> bool
+fn is_due(d: Option<u64>, moment: u64) -> bool
     ensures { result ≡ is_due d moment }
 {
-    d.on & (d.at <= moment)
+    d.is_some_and(|at| at <= moment)
 }
 
 // t1 of I frames: t1 after the oldest outstanding send time.
@@ -52,8 +52,7 @@ fn oldest_is_due(s: State, times: &[u64], moment: u64) -> bool
     if s.window.held == 0 {
         return false;
     }
-    let first = s.window.first;
-    times[first] + s.settings.t1 <= moment
+    times[s.window.first] + s.settings.t1 <= moment
 }
 
 fn tick_refusal(s: State, times: &[u64], moment: u64) -> Refusal
@@ -84,7 +83,7 @@ fn tick_t2(s: State, out: &mut [u8], moment: u64) -> Made
 }
 
 // Then t3 due acts as Test.
-fn tick_t3(m: Made, t3: Deadline, out: &mut [u8], moment: u64) -> Made
+fn tick_t3(m: Made, t3: Option<u64>, out: &mut [u8], moment: u64) -> Made
     requires { Calm m.state (length out.old) moment × (m.end ≤ 6) }
     ensures { (ts : List ℕ) → Makes (ticked_t3 t3 moment (start m.state ts)) m.end out.old result out.new }
 {
@@ -112,37 +111,25 @@ pub fn stop(l: Link, pool: &[u8], out: &mut [u8], moment: u64) -> Called
     ensures value { result ≡ called_of (called stop l pool.now (length out.old) moment) }
     ensures out_after { out.new ≡ sets out.old 0 (wire (called stop l pool.now (length out.old) moment).frames) }
 {
-    let refused = limits::check_call(l, out.len(), pool.len(), moment);
-    if !refused.is_none() {
-        return steps::refuse_call(l, refused);
-    }
-    let times = l.times;
-    let step = on_stop(l.state, out, moment);
-    steps::end_call(times, step)
+    steps::call(l, pool.len(), out, moment, |s, _, out| {
+        on_stop(s, out, moment)
+    })
 }
 
 pub fn test(l: Link, pool: &[u8], out: &mut [u8], moment: u64) -> Called
     ensures value { result ≡ called_of (called test l pool.now (length out.old) moment) }
     ensures out_after { out.new ≡ sets out.old 0 (wire (called test l pool.now (length out.old) moment).frames) }
 {
-    let refused = limits::check_call(l, out.len(), pool.len(), moment);
-    if !refused.is_none() {
-        return steps::refuse_call(l, refused);
-    }
-    let times = l.times;
-    let step = on_test(l.state, out, moment);
-    steps::end_call(times, step)
+    steps::call(l, pool.len(), out, moment, |s, _, out| {
+        on_test(s, out, moment)
+    })
 }
 
 pub fn tick(l: Link, pool: &[u8], out: &mut [u8], moment: u64) -> Called
     ensures value { result ≡ called_of (called tick l pool.now (length out.old) moment) }
     ensures out_after { out.new ≡ sets out.old 0 (wire (called tick l pool.now (length out.old) moment).frames) }
 {
-    let refused = limits::check_call(l, out.len(), pool.len(), moment);
-    if !refused.is_none() {
-        return steps::refuse_call(l, refused);
-    }
-    let times = l.times;
-    let step = on_tick(l.state, &times, out, moment);
-    steps::end_call(times, step)
+    steps::call(l, pool.len(), out, moment, |s, times, out| {
+        on_tick(s, times, out, moment)
+    })
 }

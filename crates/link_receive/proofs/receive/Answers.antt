@@ -1,24 +1,24 @@
-use mathlib.Core.Path.{◌≡◌}
-use lib.ListN.{length}
-use Rattle.elements.proofs.Refused.{none}
+use Rattle.std.proofs.Common.{◌≡◌, ◌≤◌, rules, length}
 use Rattle.link.specs.Events.{frame, event_outcome}
-use Rattle.link_steps.proofs.Calls.{opened, few_unconfirmed, call_refused, call_does}
+use Rattle.link.specs.Answering.{Open}
+use Rattle.link_steps.proofs.Calls.{opened, few_unconfirmed, call_comes}
 use Rattle.link_receive.proofs.receive.Goals as goal
 
-pub returns-then-not-is_none : goal.returns-then-not-is_none
-returns-then-not-is_none c =
-    let r = call_refused (frame c.args.f.now c.args.more) c.args.l c.args.pool.now c.args.out.now c.args.moment c.check_call-refused.ensures c.is_none.ensures c.if-not-is_none.true c.refuse_call.ensures in
-    record { value = r.0; out_after = r.2 }
-
-pub on_frame-step-requires : goal.on_frame-step-requires
-on_frame-step-requires c =
-    let passes = none _ c.check_call-refused.ensures c.is_none.ensures c.if-not-is_none.false in
-    let long : length c.args.l.times ≡ 32 = c.well_formed.0.1.1.0.1.0.1 in
-    (opened c.args.l (length c.args.out.now) (length c.args.pool.now) c.args.moment passes long, few_unconfirmed c.args.l (length c.args.out.now) (length c.args.pool.now) c.args.moment passes)
+pub call-requires : goal.call-requires
+call-requires c =
+    λ passes.
+    record {
+      at = λ ring octets same out.
+          let a = c.args in
+          let long : length a.l.times ≡ 32 = c.well_formed.0.1.1.0.1.0.1 in
+          let can : Open a.l.state (length ring.now) (length a.pool.now) (length octets.now) a.moment = rw (same, out) (opened a.l (length a.out.now) (length a.pool.now) a.moment passes long) in
+          let few : a.l.state.receive.unconfirmed ≤ 32767 = few_unconfirmed a.l (length a.out.now) (length a.pool.now) a.moment passes in
+          search rules;
+    }
 
 pub returns : goal.returns
 unfolding event_outcome
 returns c =
-    let passes = none _ c.check_call-refused.ensures c.is_none.ensures c.if-not-is_none.false in
-    let both = call_does (frame c.args.f.now c.args.more) c.args.l c.args.pool.now c.args.out.now c.args.moment passes c.end_call.ensures c.on_frame-step.ensures in
+    let a = c.args in
+    let both = call_comes (frame a.f.now a.more) a.l a.pool.now a.out.now a.moment _ c.call.ensures (λ r ts ran. search rules) in
     record { value = both.0; out_after = both.1 }

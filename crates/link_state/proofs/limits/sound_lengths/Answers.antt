@@ -1,23 +1,12 @@
-use mathlib.Core.Path.{◌≡◌, refl, ap, ◌∙◌}
-use native.Mathlib.Omega.{arith}
-use native.Mathlib.Numerals.{add-one}
-use Rattle.laws.specs.Lists.{every}
-use Rattle.link_state.specs.Limits.{sound_lengths, sound_length}
+use Rattle.std.proofs.Common.{refl, ◌∙◌, rules, tests, arith}
+use Rattle.std.proofs.lemmas.Iterator.{YieldsList-from_range}
+use Rattle.std.proofs.lemmas.Iterator.Search.{all_from_yields_List}
+use Rattle.link_state.specs.Limits.{sound_length, sound_lengths}
+use Rattle.link_state.proofs.Chains.{every_all}
 use Rattle.link_state.proofs.limits.sound_lengths.Goals as goal
 
-pub loop-i-init : goal.loop-i-init
-unfolding every
-loop-i-init c = (omega arith, refl)
-
-pub loop-i-preserved : goal.loop-i-preserved
-unfolding every sound_length
-loop-i-preserved c =
-    let l = c.loop-i in
-    (omega arith, rw (add-one, l.invariant.1))
-
 pub returns : goal.returns
-unfolding sound_lengths
+unfolding sound_lengths sound_length
 returns c =
-    let l = c.loop-i in
-    let h : l.i ≡ c.args.q.count = omega arith in
-    l.invariant.1 ∙ ap (every _) h
+    let q = c.args.q in
+    all_from_yields_List (sound_length q) _ _ _ c.all.ensures.ran (YieldsList-from_range 0 q.count q.count refl (omega arith)) (λ x b f k. search (rules, tests)) ∙ every_all (sound_length q) q.count
