@@ -20,7 +20,7 @@ fn check_addresses(s: &[u8], sequence: bool, count: usize) -> Result<(), Refusal
     if 16777216 < count {
         return Err(Refusal::WrongAddress);
     }
-    if laws::le3(s, 6) + (count as u32) <= 16777216 {
+    if laws::le::<3>(s, 6) + (count as u32) <= 16777216 {
         return Ok(());
     }
     Err(Refusal::WrongAddress)

@@ -91,7 +91,7 @@ fn header_of(s: &[u8], kind: Kind) -> Header
         negative: why / 64 % 2 == 1,
         cause: why % 64,
         originator: laws::octet_at(s, 3),
-        address: laws::le2(s, 4),
+        address: laws::le::<2>(s, 4) as u16,
     }
 }
 

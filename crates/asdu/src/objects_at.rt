@@ -14,9 +14,9 @@ fn address_at(s: &[u8], sequence: bool, i: u8, at: usize) -> u32
     ensures { result ≡ pick sequence (le_of 3 (drop 6 s.now) + i) (le_of 3 (drop (6 + at) s.now)) }
 {
     if sequence {
-        return laws::le3(s, 6) + (i as u32);
+        return laws::le::<3>(s, 6) + (i as u32);
     }
-    laws::le3(s, 6 + at)
+    laws::le::<3>(s, 6 + at)
 }
 
 // In both layouts element 0 begins at octet 9, after the header and the first address, and element i comes i steps later.

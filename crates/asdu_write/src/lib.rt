@@ -141,7 +141,7 @@ fn put_header(out: &mut [u8], a: Asdu)
         a.cause + laws::bit(a.negative) * 64 + laws::bit(a.test) * 128,
     );
     laws::put_octet(out, 3, a.originator);
-    laws::put_le2(out, 4, a.address);
+    laws::put_le::<2>(out, 4, a.address as u32);
 }
 
 // One object from a place on; the answer is the place after it.
@@ -194,7 +194,7 @@ fn put_first(out: &mut [u8], sequence: bool, first: u32) -> usize
     ensures { Put out.old 6 (address_octets sequence first) result out.new }
 {
     if sequence {
-        laws::put_le3(out, 6, first);
+        laws::put_le::<3>(out, 6, first);
         return 9;
     }
     6

@@ -10,7 +10,7 @@ pub mod walks;
 use bridge_records::fields;
 use bridge_records::fields::Listed;
 use elements::information_elements::{Coi, Diq, Siq, Vti};
-use elements::numbers;
+use elements::numbers::Signed;
 use elements::quality_descriptors::{Qds, SeqQd};
 use elements::refusals::Refusal;
 
@@ -82,26 +82,26 @@ pub fn gg_write_vti(value: i8, s: &[u8], out: &mut [u8]) -> u8 {
 }
 
 pub fn gg_read_i16(octets: &[u8]) -> i16 {
-    numbers::signed16(laws::le2(octets, 0))
+    i16::from_bits(laws::le::<2>(octets, 0) as u16)
 }
 
 pub fn gg_write_i16(value: i16, out: &mut [u8]) {
-    laws::put_le2(out, 0, numbers::bits16(value));
+    laws::put_le::<2>(out, 0, value.to_bits() as u32);
 }
 
 pub fn gg_read_i32(octets: &[u8]) -> i32 {
-    numbers::signed32(laws::le4(octets, 0))
+    i32::from_bits(laws::le::<4>(octets, 0))
 }
 
 pub fn gg_write_i32(value: i32, out: &mut [u8]) {
-    laws::put_le4(out, 0, numbers::bits32(value));
+    laws::put_le::<4>(out, 0, value.to_bits());
 }
 
 // A bit string, and the bits of an f32.
 pub fn gg_read_u32(octets: &[u8]) -> u32 {
-    laws::le4(octets, 0)
+    laws::le::<4>(octets, 0)
 }
 
 pub fn gg_write_u32(value: u32, out: &mut [u8]) {
-    laws::put_le4(out, 0, value);
+    laws::put_le::<4>(out, 0, value);
 }

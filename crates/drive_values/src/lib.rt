@@ -2,7 +2,7 @@
 #![tactic(auto)]
 
 use elements::information_elements::{Coi, Diq, Siq, Vti};
-use elements::numbers;
+use elements::numbers::Signed;
 use elements::quality_descriptors::{Qds, SeqQd};
 use objects::Object;
 use objects::values::Value;
@@ -41,7 +41,7 @@ fn put_signed(out: &mut [u8], at: usize, bits: u32, sign: u32) -> usize {
 
 fn put_vti(out: &mut [u8], at: usize, vti: Vti) -> usize {
     let qds = vti.qds;
-    let end = put_signed(out, at, laws::wide(numbers::bits8(vti.value)), 0x80);
+    let end = put_signed(out, at, laws::wide(vti.value.to_bits()), 0x80);
     let end = text::put_mark(out, end, b",transient=", vti.transient);
     put_quality(out, end, qds)
 }
@@ -52,7 +52,7 @@ fn put_bits(out: &mut [u8], at: usize, bits: u32, qds: Qds) -> usize {
 }
 
 fn put_i16(out: &mut [u8], at: usize, n: i16) -> usize {
-    put_signed(out, at, numbers::bits16(n) as u32, 0x8000)
+    put_signed(out, at, n.to_bits() as u32, 0x8000)
 }
 
 fn put_measured(out: &mut [u8], at: usize, n: i16, qds: Qds) -> usize {
@@ -61,7 +61,7 @@ fn put_measured(out: &mut [u8], at: usize, n: i16, qds: Qds) -> usize {
 }
 
 fn put_counter(out: &mut [u8], at: usize, n: i32, seq_qd: SeqQd) -> usize {
-    let end = put_signed(out, at, numbers::bits32(n), 0x8000_0000);
+    let end = put_signed(out, at, n.to_bits(), 0x8000_0000);
     let end = text::put_mark(out, end, b",iv=", seq_qd.iv);
     let end = text::put_mark(out, end, b",ca=", seq_qd.ca);
     let end = text::put_mark(out, end, b",cy=", seq_qd.cy);

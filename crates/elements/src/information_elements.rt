@@ -4,7 +4,7 @@ ghost use Rattle.elements.specs.Points.{spi_of, spi_bits, siq_of, siq_octet, dpi
 ghost use Rattle.elements.specs.Steps.{step_position, vti_of, vti_answer};
 ghost use Rattle.elements.specs.Causes.{coi_of, coi_answer};
 
-use crate::numbers;
+use crate::numbers::Signed;
 use crate::quality_descriptors::Qds;
 use crate::refusals::Refusal;
 
@@ -150,9 +150,9 @@ fn step_position(byte: u8) -> i8
 {
     let bits = byte % 128;
     if bits < 64 {
-        return numbers::signed8(bits);
+        return i8::from_bits(bits);
     }
-    numbers::signed8(bits + 128)
+    i8::from_bits(bits + 128)
 }
 
 impl Vti {
@@ -171,7 +171,7 @@ impl Vti {
     pub fn to_bytes(self) -> Result<(u8, u8), Refusal>
         ensures { result ≡ vti_answer self }
     {
-        let bits = numbers::bits8(self.value);
+        let bits = self.value.to_bits();
         let mark = laws::bit(self.transient) * 128;
         let qds = self.qds;
         if bits < 64 {

@@ -1,57 +1,74 @@
-// Signed numbers by their bits: two's complement of 8, 16 and 32 bits.
-ghost use Rattle.std.specs.Prelude.{◌≡◌};
+// Signed numbers by their bits: two's complement, as wide as the type.
+ghost use Rattle.std.specs.Prelude.{◌≡◌, ℕ, ℤ};
 ghost use Rattle.laws.specs.Numbers.{signed_of, bits_of};
 
-pub fn signed8(n: u8) -> i8
-    ensures { result ≡ signed_of 8 n }
-{
-    if n < 0x80 {
-        return n as i8;
-    }
-    !((0xFF - n) as i8)
+// A signed type and the unsigned one that has as many bits.
+pub trait Signed {
+    type Bits;
+
+    ghost width: { ℕ };
+
+    ghost value: { Self → ℤ };
+
+    ghost number: { Self.Bits → ℕ };
+
+    fn from_bits(n: Self::Bits) -> Self
+        ensures { value result ≡ signed_of width (number n) };
+
+    fn to_bits(self) -> Self::Bits
+        ensures { number result ≡ bits_of width (value self) };
 }
 
-pub fn bits8(z: i8) -> u8
-    ensures { result ≡ bits_of 8 z }
-{
-    if 0 <= z {
-        return z as u8;
+impl Signed for i8 {
+    type Bits = u8;
+
+    ghost width = { 8 };
+
+    ghost value = { λ z. z };
+
+    ghost number = { λ n. n };
+
+    fn from_bits(n: u8) -> i8 {
+        n.cast_signed()
     }
-    0xFF - (!z) as u8
+
+    fn to_bits(self) -> u8 {
+        self.cast_unsigned()
+    }
 }
 
-pub fn signed16(n: u16) -> i16
-    ensures { result ≡ signed_of 16 n }
-{
-    if n < 0x8000 {
-        return n as i16;
+impl Signed for i16 {
+    type Bits = u16;
+
+    ghost width = { 16 };
+
+    ghost value = { λ z. z };
+
+    ghost number = { λ n. n };
+
+    fn from_bits(n: u16) -> i16 {
+        n.cast_signed()
     }
-    !((0xFFFF - n) as i16)
+
+    fn to_bits(self) -> u16 {
+        self.cast_unsigned()
+    }
 }
 
-pub fn bits16(z: i16) -> u16
-    ensures { result ≡ bits_of 16 z }
-{
-    if 0 <= z {
-        return z as u16;
-    }
-    0xFFFF - (!z) as u16
-}
+impl Signed for i32 {
+    type Bits = u32;
 
-pub fn signed32(n: u32) -> i32
-    ensures { result ≡ signed_of 32 n }
-{
-    if n < 0x80000000 {
-        return n as i32;
-    }
-    !((0xFFFFFFFF - n) as i32)
-}
+    ghost width = { 32 };
 
-pub fn bits32(z: i32) -> u32
-    ensures { result ≡ bits_of 32 z }
-{
-    if 0 <= z {
-        return z as u32;
+    ghost value = { λ z. z };
+
+    ghost number = { λ n. n };
+
+    fn from_bits(n: u32) -> i32 {
+        n.cast_signed()
     }
-    0xFFFFFFFF - (!z) as u32
+
+    fn to_bits(self) -> u32 {
+        self.cast_unsigned()
+    }
 }

@@ -9,8 +9,7 @@ use native.Mathlib.Numerals.{add-one}
 use borrow.Author.Tests.{lt-ltb, le-ltb, ltb-true, ltb-false}
 use lib.Dec.{ltb}
 use lib.IntN.{ℤ, pos, negsuc}
-use lib.ListN.{get_or, drop, length, set, drop_of_length-le}
-use lib.Arith.{mod-mul}
+use lib.ListN.{get_or, drop, length, set}
 use lib.Seq.{get_or-drop, drop-drop, sets}
 use lib.Signed.{mag}
 use Rattle.laws.specs.Choice.{pick}
@@ -23,40 +22,35 @@ pub le_step : (n : ℕ) (s : List ℕ) (at : ℕ) → le_of (suc n) (drop at s) 
 unfolding le_of
 le_step n s at = rw (get_or-drop at s 0 0, add-zero at, drop-drop 1 at s)
 
-le_nil : (n : ℕ) → le_of n [] ≡ 0
-unfolding le_of
-le_nil zero = refl
-le_nil (suc n) = rw (le_nil n)
-
-pub le_past : (n : ℕ) (s : List ℕ) (at : ℕ) → length s ≤ at → le_of n (drop at s) ≡ 0
-le_past n s at h = rw (drop_of_length-le s h) (le_nil n)
-
 pub le_one : (s : List ℕ) (at : ℕ) → le_of 1 (drop at s) ≡ get_or s at 0
 unfolding le_of
 le_one s at = rw (get_or-drop at s 0 0, add-zero at) (omega arith)
 
--- a number of one octet more, as the code reads it: the first octet, and the rest times 256
-pub le_more : (n : ℕ) (s : List ℕ) (at : ℕ) {a b : ℕ} → a ≡ get_or s at 0 → b ≡ le_of n (drop (at + 1) s) → a + b * 256 ≡ le_of (suc n) (drop at s)
-le_more n s at p q = omega (arith, le_step n s at)
+-- the octet in front of what is read so far, as the code reads a number from its last octet on: what it then is, and that it fits
+module _ (m i : ℕ) (some : 1 ≤ i) (most : i ≤ m) where
+  one_more : suc (m - i) ≡ m - (i - 1)
+  one_more = omega arith
 
--- and as the code writes it
+  pub le_turn : (s : List ℕ) {a b : ℕ} → a ≡ get_or s (i - 1) 0 → b ≡ le_of (m - i) (drop i s) → b * 256 + a ≡ le_of (m - (i - 1)) (drop (i - 1) s)
+  le_turn s p q =
+      let e : i - 1 + 1 ≡ i = omega arith in
+      rw (← one_more) (omega (arith, le_step (m - i) s (i - 1), ap (λ (j : ℕ). le_of (m - i) (drop j s)) e))
+
+  pub le_turn_fits : {a b : ℕ} → a < 256 → b < 256 ^ (m - i) → b * 256 + a < 256 ^ (m - (i - 1))
+  le_turn_fits h g = rw (← one_more) (omega (arith, pow-suc 256 (m - i)))
+
+-- four octets fit 32 bits
+pub four_fit : (k : ℕ) {a b : ℕ} → k ≤ 3 → a < 256 → b < 256 ^ k → b * 256 + a < 4294967296
+four_fit zero h f g = omega arith
+four_fit (suc zero) h f g = omega arith
+four_fit (suc (suc zero)) h f g = omega arith
+four_fit (suc (suc (suc zero))) h f g = omega arith
+four_fit (suc (suc (suc (suc k)))) h f g = absurd (omega arith)
+
+-- a number of one octet more, as the code writes it
 pub put_more : (n : ℕ) (l : List ℕ) (at v : ℕ) → sets (set l at (v % 256)) (at + 1) (le_octets n (v / 256)) ≡ sets l at (le_octets (suc n) v)
 unfolding le_octets
 put_more n l at v = rw add-one
-
--- only the value below 256 ^ n counts
-pub octets_low : (n v : ℕ) → le_octets n (v % 256 ^ n) ≡ le_octets n v
-unfolding le_octets
-octets_low zero v = refl
-octets_low (suc n) v =
-    let e : v % 256 ^ suc n ≡ v / 256 % 256 ^ n * 256 + v % 256 = ap (λ (m : ℕ). v % m) (pow-suc 256 n) ∙ mod-mul v {m = 256 ^ n} {c = 256} (pos_pow n) (omega arith) in
-    let a : v % 256 ^ suc n % 256 ≡ v % 256 = omega arith in
-    let b : v % 256 ^ suc n / 256 ≡ v / 256 % 256 ^ n = omega arith in
-    rw (a, b, octets_low n (v / 256))
-  where
-    pos_pow : (n : ℕ) → 0 < 256 ^ n
-    pos_pow zero = omega arith
-    pos_pow (suc n) = omega (arith, pow-suc 256 n, pos_pow n)
 
 pub reads_back : NumberReadsBack
 unfolding le_of le_octets

@@ -54,7 +54,7 @@ pub fn read_object(s: &[u8], kind: Kind) -> Object
 {
     let value = values::read_element(laws::part_from(s, 3), kind);
     Object {
-        address: laws::le3(s, 0),
+        address: laws::le::<3>(s, 0),
         value,
     }
 }
@@ -63,7 +63,7 @@ pub fn put_object(out: &mut [u8], object: Object)
     ensures { out.new ≡ sets out.old 0 (object_octets object) }
 {
     let value = object.value;
-    laws::put_le3(out, 0, object.address);
+    laws::put_le::<3>(out, 0, object.address);
     if 3 <= out.len() {
         values::put_element(&mut out[3..], value);
     }

@@ -9,7 +9,7 @@ ghost use Rattle.objects.specs.Elements.{element_of, element_octets, value_refus
 
 use crate::kinds::Kind;
 use elements::information_elements::{Coi, Diq, Siq, Vti};
-use elements::numbers;
+use elements::numbers::Signed;
 use elements::quality_descriptors::{Qds, SeqQd};
 use elements::refusals::Refusal;
 
@@ -63,13 +63,13 @@ fn quality_at(s: &[u8], at: usize) -> Qds
 fn i16_in(s: &[u8]) -> i16
     ensures { result ≡ signed_of 16 (le_of 2 s.now) }
 {
-    numbers::signed16(laws::le2(s, 0))
+    i16::from_bits(laws::le::<2>(s, 0) as u16)
 }
 
 fn i32_in(s: &[u8]) -> i32
     ensures { result ≡ signed_of 32 (le_of 4 s.now) }
 {
-    numbers::signed32(laws::le4(s, 0))
+    i32::from_bits(laws::le::<4>(s, 0))
 }
 
 // The value of the element that begins a slice; octets past its end count 0.
@@ -81,10 +81,10 @@ pub fn read_element(s: &[u8], kind: Kind) -> Value
         Kind::MSpNa1 => Value::MSpNa1(Siq::from_byte(laws::octet_at(s, 0))),
         Kind::MDpNa1 => Value::MDpNa1(Diq::from_byte(laws::octet_at(s, 0))),
         Kind::MStNa1 => Value::MStNa1(Vti::from_byte(laws::octet_at(s, 0), laws::octet_at(s, 1))),
-        Kind::MBoNa1 => Value::MBoNa1(quality_at(s, 4), laws::le4(s, 0)),
+        Kind::MBoNa1 => Value::MBoNa1(quality_at(s, 4), laws::le::<4>(s, 0)),
         Kind::MMeNa1 => Value::MMeNa1(i16_in(s), quality_at(s, 2)),
         Kind::MMeNb1 => Value::MMeNb1(i16_in(s), quality_at(s, 2)),
-        Kind::MMeNc1 => Value::MMeNc1(quality_at(s, 4), laws::le4(s, 0)),
+        Kind::MMeNc1 => Value::MMeNc1(quality_at(s, 4), laws::le::<4>(s, 0)),
         Kind::MItNa1 => Value::MItNa1(i32_in(s), SeqQd::from_byte(laws::octet_at(s, 4))),
         Kind::MMeNd1 => Value::MMeNd1(i16_in(s)),
         Kind::MEiNa1 => Value::MEiNa1(Coi::from_byte(laws::octet_at(s, 0))),
@@ -118,7 +118,7 @@ pub fn check_value(value: Value) -> Result<(), Refusal>
 fn put_bits_and_octet(out: &mut [u8], bits: u32, octet: u8)
     ensures { out.new ≡ sets out.old 0 (le_octets 4 bits ++ (octet ∷ [])) }
 {
-    laws::put_le4(out, 0, bits);
+    laws::put_le::<4>(out, 0, bits);
     laws::put_octet(out, 4, octet);
 }
 
@@ -126,7 +126,7 @@ fn put_bits_and_octet(out: &mut [u8], bits: u32, octet: u8)
 fn put_i16_and_quality(out: &mut [u8], n: i16, qds: Qds)
     ensures { out.new ≡ sets out.old 0 (le_octets 2 (bits_of 16 n) ++ (qds_octet qds ∷ [])) }
 {
-    laws::put_le2(out, 0, numbers::bits16(n));
+    laws::put_le::<2>(out, 0, n.to_bits() as u32);
     laws::put_octet(out, 2, qds.to_byte());
 }
 
@@ -154,10 +154,10 @@ pub fn put_element(out: &mut [u8], value: Value)
         Value::MMeNc1(qds, bits) => put_bits_and_octet(out, bits, qds.to_byte()),
         Value::MItNa1(n, sqd) => put_bits_and_octet(
             out,
-            numbers::bits32(n),
+            n.to_bits(),
             sqd.to_byte().unwrap_or(0),
         ),
-        Value::MMeNd1(n) => laws::put_le2(out, 0, numbers::bits16(n)),
+        Value::MMeNd1(n) => laws::put_le::<2>(out, 0, n.to_bits() as u32),
         Value::MEiNa1(coi) => laws::put_octet(out, 0, coi.to_byte().unwrap_or(0)),
         Value::CIcNa1(n) => laws::put_octet(out, 0, n),
         Value::CCiNa1(n) => laws::put_octet(out, 0, n),

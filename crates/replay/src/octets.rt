@@ -67,11 +67,11 @@ fn answers_octets(kind: u8, given: &[u8], told: &[u8]) -> bool {
 
 // A number of two or of four octets, with nothing after it.
 fn is_number16(told: &[u8], number: bool) -> bool {
-    number & (laws::le2(told, 2) == 0) & (laws::le4(told, 4) == 0)
+    number & (laws::le::<2>(told, 2) == 0) & (laws::le::<4>(told, 4) == 0)
 }
 
 fn is_number32(told: &[u8], number: bool) -> bool {
-    number & (laws::le4(told, 4) == 0)
+    number & (laws::le::<4>(told, 4) == 0)
 }
 
 pub fn agrees(kind: u8, given: &[u8], told: &[u8]) -> bool {

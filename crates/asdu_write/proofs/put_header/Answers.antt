@@ -10,6 +10,6 @@ returns c =
     c.put_octet-2.ensures
     c.put_octet-3.ensures
     c.put_octet-4.ensures
-    c.put_le2.ensures
+    c.put_le.ensures
     (omega (arith, c.bit.ensures.value))
     (omega (arith, c.bit-3.ensures.value, c.bit-2.ensures.value))

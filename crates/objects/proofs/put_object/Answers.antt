@@ -18,12 +18,12 @@ stored out o e = rw e (sym (sets_append out 0 (le_octets 3 o.address) (element_o
 pub returns-then-out-ge3 : goal.returns-then-out-ge3
 returns-then-out-ge3 c =
     let a = c.args in
-    let p = c.put_le3 in
+    let p = c.put_le in
     rest_sets p.new.out 3 (element_octets a.object.value) c.put_element.ensures
     ∙ stored a.out.now a.object p.ensures
 
 pub returns-else-out-ge3 : goal.returns-else-out-ge3
 returns-else-out-ge3 c =
     let a = c.args in
-    let p = c.put_le3 in
+    let p = c.put_le in
     sym (sets_past p.new.out 3 (element_octets a.object.value) (omega arith)) ∙ stored a.out.now a.object p.ensures

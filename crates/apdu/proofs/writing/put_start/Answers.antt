@@ -10,8 +10,8 @@ returns-then-at-out c =
     start_stored a.at a.length a.a a.b a.out.now
     c.put_octet.ensures
     c.put_octet-then-at-out.ensures
-    c.put_le2.ensures
-    c.put_le2-then-at-out.ensures
+    c.put_le.ensures
+    c.put_le-then-at-out.ensures
 
 pub returns-else-at-out : goal.returns-else-at-out
 returns-else-at-out c =
