@@ -9,9 +9,11 @@ use lib.ListN.{length, get_or, drop}
 use lib.Dec.{eqb, leb, ltb}
 use Rattle.laws.specs.Choice.{pick}
 use Rattle.laws.specs.Lists.{Octets}
-use Rattle.elements.specs.Refusals.{refusal, queue_full, not_plain_form, wrong_receive_number, wrong_send_number, u_not_answered, too_many_tests}
+use Rattle.std.specs.Prelude.{Result, Ok, Err}
+use Rattle.elements.specs.declared.refusals.Refusal.{Refusal}
+use Rattle.elements.specs.Refusals.{refusal, answer_number, queue_full, not_plain_form, wrong_receive_number, wrong_send_number, u_not_answered, too_many_tests}
 use Rattle.asdu.specs.Header.{header_answer}
-use Rattle.asdu.specs.Records.{no_asdu, answer_number, asdu_of, filled, refused_with}
+use Rattle.asdu.specs.Records.{no_asdu, asdu_of, filled, refused_with}
 use Rattle.asdu.specs.Reading.{objects_refusal, objects_in, read_body, read_by, read_asdu}
 use Rattle.asdu.specs.Writing.{write_refusal, write_answer, written, write_number}
 use Rattle.asdu.specs.Plain.{plain_answer, plain_number}
@@ -28,12 +30,11 @@ use Rattle.apdu.specs.Writing.{answer_for, output_for}
 use Rattle.apdu.specs.declared.frame.UFrame.{UFrame}
 use Rattle.apdu.specs.declared.frame.FrameAnswer.{FrameAnswer}
 use Rattle.apdu.proofs.Shapes.{number_fits, Shape, i_shape, s_shape, u_shape, refused_shape, shape}
-use Rattle.assembly.specs.Picking.{pick_answer, pick_number, pick_part_by, pick_part}
-use Rattle.assembly.specs.Topping.{top_up_answer, top_up_number, moved_in, topped}
-use Rattle.assembly.specs.Stepping.{step_answer, step_number, step_moved, step_carry}
-use Rattle.assembly.specs.declared.picking.PickAnswer.{PickAnswer}
-use Rattle.assembly.specs.declared.topping.TopUpAnswer.{TopUpAnswer}
-use Rattle.assembly.specs.declared.stepping.StepAnswer.{StepAnswer}
+use Rattle.assembly.specs.Picking.{pick_answer, pick_part_by, pick_part}
+use Rattle.assembly.specs.Topping.{top_up_answer, moved_in, topped}
+use Rattle.assembly.specs.Stepping.{step_answer, step_moved, step_carry}
+use Rattle.assembly.specs.declared.Pick.{Pick}
+use Rattle.assembly.specs.declared.Step.{Step}
 use Rattle.link_state.specs.Acknowledging.{confirms, acknowledged}
 use Rattle.link_state.specs.Limits.{call_refusal}
 use Rattle.link_state.specs.Opening.{set_for, fresh_link, blank_link, open_refusal, refused_opening, opened, open_number}
@@ -97,13 +98,13 @@ frame_part : (f : List ℕ) → 0 < frame_number (frame_answer f) → asdu_part 
 unfolding asdu_part
 frame_part f p = part_by (frame_answer f) f p
 
-picked_by : (a : PickAnswer) (carry chunk : List ℕ) → 0 < pick_number a → pick_part_by a carry chunk ≡ []
-picked_by (PickAnswer.Carry n) carry chunk p = absurd (omega arith)
-picked_by (PickAnswer.Chunk n) carry chunk p = absurd (omega arith)
-picked_by PickAnswer.More carry chunk p = refl
-picked_by (PickAnswer.Refused r) carry chunk p = refl
+picked_by : (a : Result Pick Refusal) (carry chunk : List ℕ) → 0 < answer_number a → pick_part_by a carry chunk ≡ []
+picked_by (Ok (Pick.Carry n)) carry chunk p = absurd (omega arith)
+picked_by (Ok (Pick.Chunk n)) carry chunk p = absurd (omega arith)
+picked_by (Ok Pick.More) carry chunk p = refl
+picked_by (Err r) carry chunk p = refl
 
-picked_part : (carry : List ℕ) (held : ℕ) (chunk : List ℕ) → 0 < pick_number (pick_answer carry held chunk) → pick_part carry held chunk ≡ []
+picked_part : (carry : List ℕ) (held : ℕ) (chunk : List ℕ) → 0 < answer_number (pick_answer carry held chunk) → pick_part carry held chunk ≡ []
 unfolding pick_part
 picked_part carry held chunk p = picked_by (pick_answer carry held chunk) carry chunk p
 
@@ -119,21 +120,21 @@ frame_output refused octets out = by (eqb refused 0)
     by true p = absurd (omega arith)
     by false p = refl
 
-moved_none : (a : TopUpAnswer) → 0 < top_up_number a → moved_in a ≡ 0
-moved_none (TopUpAnswer.Moved m) p = absurd (omega arith)
-moved_none (TopUpAnswer.Refused r) p = refl
+moved_none : (a : Result ℕ Refusal) → 0 < answer_number a → moved_in a ≡ 0
+moved_none (Ok m) p = absurd (omega arith)
+moved_none (Err r) p = refl
 
-topped_carry : (carry : List ℕ) (held : ℕ) (chunk : List ℕ) → 0 < top_up_number (top_up_answer carry held chunk) → topped carry held chunk ≡ carry
+topped_carry : (carry : List ℕ) (held : ℕ) (chunk : List ℕ) → 0 < answer_number (top_up_answer carry held chunk) → topped carry held chunk ≡ carry
 unfolding topped
 topped_carry carry held chunk p = rw (moved_none (top_up_answer carry held chunk) p)
 
-stepped_none : (a : StepAnswer) → 0 < step_number a → step_moved a ≡ 0
-stepped_none (StepAnswer.Chunk n) p = refl
-stepped_none (StepAnswer.Carry m n) p = absurd (omega arith)
-stepped_none (StepAnswer.More m) p = absurd (omega arith)
-stepped_none (StepAnswer.Refused r) p = refl
+stepped_none : (a : Result Step Refusal) → 0 < answer_number a → step_moved a ≡ 0
+stepped_none (Ok (Step.Chunk n)) p = refl
+stepped_none (Ok (Step.Carry m n)) p = absurd (omega arith)
+stepped_none (Ok (Step.More m)) p = absurd (omega arith)
+stepped_none (Err r) p = refl
 
-stepped_carry : (carry : List ℕ) (held : ℕ) (chunk : List ℕ) → 0 < step_number (step_answer carry held chunk) → step_carry carry held chunk ≡ carry
+stepped_carry : (carry : List ℕ) (held : ℕ) (chunk : List ℕ) → 0 < answer_number (step_answer carry held chunk) → step_carry carry held chunk ≡ carry
 unfolding step_carry
 stepped_carry carry held chunk p = rw (stepped_none (step_answer carry held chunk) p)
 
