@@ -2,9 +2,7 @@
 // a number: that of the refusal; or what it is, how many bytes were moved, and how many the frame has.
 #![tactic(auto)]
 
-use assembly::picking::Pick;
-use assembly::stepping::Step;
-use assembly::{picking, stepping, topping};
+use assembly::{Pick, Step, picking, stepping, topping};
 
 // Kept as numbers: C sees them.
 const CARRY: u8 = 1;
