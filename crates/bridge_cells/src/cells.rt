@@ -1,7 +1,6 @@
 // A link as a list of numbers: the ring of send times, the lengths of what waits, and then a number for each field, in the
 // order of the records of `link_state`. What a list has no room for is not put, and a number past its end is taken as 0.
 use apdu::frame::{ReceiveNumber, SendNumber};
-use elements::refusals::Refusal;
 use link_state::{Link, Queue, Receive, Settings, State, Status, Timers, Window};
 
 // A value whose numbers are put at the start of a list and taken from its start; the list goes on behind them. Kept apart
@@ -180,13 +179,13 @@ impl InCells for Timers {
 impl InCells for Status {
     fn put(self, cells: &mut &mut [u64]) {
         self.closed.put(cells);
-        self.reason.0.put(cells);
+        self.reason.put(cells);
     }
 
     fn take(cells: &mut &[u64]) -> Status {
         Status {
             closed: InCells::take(cells),
-            reason: Refusal(InCells::take(cells)),
+            reason: InCells::take(cells),
         }
     }
 }

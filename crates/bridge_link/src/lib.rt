@@ -15,7 +15,10 @@ pub fn gg_link_open(list: &mut [u64], moment: u64) -> u32 {
         came: false,
     };
     called::put(list, opened.link, nothing);
-    laws::wide(opened.answer.refusal().0)
+    match opened.answer {
+        Ok(()) => 0,
+        Err(refusal) => refusal as u32,
+    }
 }
 
 pub fn gg_link_receive(
