@@ -11,12 +11,10 @@ use Rattle.std.specs.Prelude.{Option, Some, Result, Ok}
 use Rattle.laws.specs.Numbers.{le_octets}
 use Rattle.elements.specs.declared.refusals.Refusal.{Refusal}
 use Rattle.asdu.specs.Plain.{plain_answer}
-use Rattle.asdu.specs.declared.PlainAnswer.TheVariants as PlainAnswer
 use Rattle.apdu.specs.Control.{send_number, receive_number}
 use Rattle.apdu.specs.Reading.{frame_answer, asdu_part}
 use Rattle.apdu.specs.Writing.{i_octets, s_octets, u_octets}
 use Rattle.apdu.specs.declared.frame.UFrame.{UFrame}
-use Rattle.apdu.specs.declared.frame.FrameAnswer.{FrameAnswer}
 use Rattle.apdu.proofs.Answers.{i_long}
 use Rattle.assembly.specs.Start.{start_refusal, sight, start_answer}
 use Rattle.assembly.specs.Streams.{rest, StreamOutcome, handed, outcome_by, stream_from, stream}
@@ -26,19 +24,22 @@ use Rattle.link_meaning.specs.Effects.{asdus_of, tells_r, others, NumberedFrames
 use Rattle.asdu.proofs.Passed.{plain_reads, plain_sized}
 use Rattle.promises.specs.Demand3.{keep_i, i_frames_in, asdus_in, Numbered, told_in}
 use Rattle.promises.proofs.FrameBack.{i_reads, part_is, s_reads, frame_reads_back}
+use Rattle.apdu.specs.declared.frame.Frame as read
+use Rattle.apdu.specs.declared.frame.Frame.TheVariants.{I, S, U}
+use Rattle.asdu.specs.declared.Form.TheVariants.{Plain}
 
 -- ---- one frame
 
 -- numbers of 15 bits, and an ASDU of plain form
 abbrev pub Fit : Frame → Type 0
-Fit (i_frame s r x) = (s ≤ 32767) × (r ≤ 32767) × (plain_answer x ≡ PlainAnswer.Plain)
+Fit (i_frame s r x) = (s ≤ 32767) × (r ≤ 32767) × (plain_answer x ≡ Ok Plain)
 Fit (s_frame r) = r ≤ 32767
 Fit (u_frame u) = Unit {0}
 
-abbrev read_as : Frame → FrameAnswer
-read_as (i_frame s r x) = FrameAnswer.I (send_number s) (receive_number r)
-read_as (s_frame r) = FrameAnswer.S (receive_number r)
-read_as (u_frame u) = FrameAnswer.U u
+abbrev read_as : Frame → Result read.Frame Refusal
+read_as (i_frame s r x) = Ok (I (send_number s) (receive_number r))
+read_as (s_frame r) = Ok (S (receive_number r))
+read_as (u_frame u) = Ok (U u)
 
 reads : (f : Frame) → Fit f → frame_answer (octets_of f) ≡ read_as f
 unfolding octets_of
@@ -59,7 +60,7 @@ u_six : (u : UFrame) → length (octets_of (u_frame u)) ≡ 6
 unfolding octets_of u_octets le_octets
 u_six u = refl
 
-i_most : (s r : ℕ) (x : List ℕ) → plain_answer x ≡ PlainAnswer.Plain → length (octets_of (i_frame s r x)) ≤ 255
+i_most : (s r : ℕ) (x : List ℕ) → plain_answer x ≡ Ok Plain → length (octets_of (i_frame s r x)) ≤ 255
 unfolding octets_of
 i_most s r x e = let z = plain_sized x e in omega (arith, i_long s r x, z.1)
 
@@ -125,7 +126,7 @@ wire_most (u_frame u ∷ fs) h = let f = u_frame u in omega (arith, length-appen
 -- ASDUs of plain form
 abbrev pub AllPlain : List (List ℕ) → Type 0
 AllPlain [] = Unit {0}
-AllPlain (x ∷ xs) = (plain_answer x ≡ PlainAnswer.Plain) × AllPlain xs
+AllPlain (x ∷ xs) = (plain_answer x ≡ Ok Plain) × AllPlain xs
 
 low : (n : ℕ) → n % 32768 ≤ 32767
 low n = omega arith
