@@ -12,8 +12,9 @@ use Rattle.laws.specs.Numbers.{le_of}
 use Rattle.laws.proofs.Choices.{passed, held}
 use Rattle.laws.proofs.Lists.{octets_drop}
 use Rattle.laws.proofs.Numbers.{le_fits}
-use Rattle.elements.specs.Refusals.{refusal, bad_u_control, bad_s_control, bad_i_control, i_without_asdu}
+use Rattle.elements.specs.Refusals.{number, refusal, bad_u_control, bad_s_control, bad_i_control, i_without_asdu}
 use Rattle.elements.specs.declared.refusals.Refusal.{Refusal}
+use Rattle.elements.proofs.Refused.{number_some}
 use Rattle.asdu.specs.Reading.{read_refusal}
 use Rattle.apdu.specs.Control.{send_number, receive_number, number_at, u_of}
 use Rattle.apdu.specs.Reading.{outer_refusal, short_answer, long_answer, frame_answer}
@@ -62,7 +63,7 @@ pub data Shape (f : List ℕ) : Type 0 where
   i_shape : ITaken f → frame_answer f ≡ Ok (I (send_number (number_at 2 f)) (receive_number (number_at 4 f))) → Shape f
   s_shape : STaken f → frame_answer f ≡ Ok (S (receive_number (number_at 4 f))) → Shape f
   u_shape : UTaken f → frame_answer f ≡ Ok (U (u_of (get_or f 2 0))) → Shape f
-  refused_shape : (n : ℕ) → (n ≡ 0 → ⊥) → frame_answer f ≡ Err (refusal n) → Shape f
+  refused_shape : (r : Refusal) → (number r ≡ 0 → ⊥) → frame_answer f ≡ Err r → Shape f
 
 module _ (f : List ℕ) where
   short : Outer f → get_or f 1 0 ≡ 4 → frame_answer f ≡ short_answer f → Shape f
@@ -72,13 +73,13 @@ module _ (f : List ℕ) where
       u_by : (t v : Bool) → eqb (get_or f 2 0 % 4) 3 ≡ true → eqb (get_or f 3 0) 0 ≡ t → eqb (le_of 2 (drop 4 f)) 0 ≡ v → Shape f
       u_by true true e g h =
           u_shape (record { outside = o; four = l; low = eqb-true _ _ e; second = eqb-true _ _ g; rest = eqb-true _ _ h }) (a ∙ rw (e, g, h))
-      u_by true false e g h = refused_shape bad_u_control (λ z. omega arith) (a ∙ rw (e, g, h))
-      u_by false v e g h = refused_shape bad_u_control (λ z. omega arith) (a ∙ rw (e, g))
+      u_by true false e g h = refused_shape (refusal bad_u_control) (number_some (refusal bad_u_control)) (a ∙ rw (e, g, h))
+      u_by false v e g h = refused_shape (refusal bad_u_control) (number_some (refusal bad_u_control)) (a ∙ rw (e, g))
 
       s_by : (t v : Bool) → eqb (get_or f 2 0 % 4) 3 ≡ false → eqb (get_or f 2 0 % 4) 1 ≡ t → eqb (le_of 2 (drop 2 f)) 1 ≡ v → Shape f
       s_by true true n e g = s_shape (record { outside = o; four = l; first = eqb-true _ _ g }) (a ∙ rw (n, e, g))
-      s_by true false n e g = refused_shape bad_s_control (λ z. omega arith) (a ∙ rw (n, e, g))
-      s_by false v n e g = refused_shape i_without_asdu (λ z. omega arith) (a ∙ rw (n, e))
+      s_by true false n e g = refused_shape (refusal bad_s_control) (number_some (refusal bad_s_control)) (a ∙ rw (n, e, g))
+      s_by false v n e g = refused_shape (refusal i_without_asdu) (number_some (refusal i_without_asdu)) (a ∙ rw (n, e))
 
       by : (t : Bool) → eqb (get_or f 2 0 % 4) 3 ≡ t → Shape f
       by true e = u_by (eqb (get_or f 3 0) 0) (eqb (le_of 2 (drop 4 f)) 0) e refl refl
@@ -91,9 +92,9 @@ module _ (f : List ℕ) where
       by : (t v w : Bool) → eqb (get_or f 2 0 % 2) 0 ≡ t → eqb (get_or f 4 0 % 2) 0 ≡ v → eqb (read_refusal (drop 6 f)) 0 ≡ w → Shape f
       by true true true e g h =
           i_shape (record { outside = o; send_bit = eqb-true _ _ e; receive_bit = eqb-true _ _ g; reads = eqb-true _ _ h }) (a ∙ rw (e, g, h))
-      by true true false e g h = refused_shape (read_refusal (drop 6 f)) (eqb-false _ _ h) (a ∙ rw (e, g, h))
-      by true false w e g h = refused_shape bad_i_control (λ z. omega arith) (a ∙ rw (e, g))
-      by false v w e g h = refused_shape bad_i_control (λ z. omega arith) (a ∙ rw e)
+      by true true false e g h = refused_shape (refusal (read_refusal (drop 6 f))) (number_some _) (a ∙ rw (e, g, h))
+      by true false w e g h = refused_shape (refusal bad_i_control) (number_some (refusal bad_i_control)) (a ∙ rw (e, g))
+      by false v w e g h = refused_shape (refusal bad_i_control) (number_some (refusal bad_i_control)) (a ∙ rw e)
 
   pub shape : Shape f
   unfolding frame_answer
@@ -102,7 +103,7 @@ module _ (f : List ℕ) where
       by : (t v : Bool) → eqb (outer_refusal f) 0 ≡ t → eqb (get_or f 1 0) 4 ≡ v → Shape f
       by true true e g = short (outer f (eqb-true _ _ e)) (eqb-true _ _ g) (rw (e, g))
       by true false e g = long (outer f (eqb-true _ _ e)) (rw (e, g))
-      by false v e g = refused_shape (outer_refusal f) (eqb-false _ _ e) (rw e)
+      by false v e g = refused_shape (refusal (outer_refusal f)) (number_some _) (rw e)
 
 -- ---- the receive number, if any, has 15 bits
 

@@ -73,10 +73,9 @@ fn read_long(f: &[u8]) -> Result<Frame, Refusal>
         return Err(Refusal::BadIControl);
     }
     checking::check_asdu(laws::part_from(f, frame::ASDU_START))?;
-    Ok(Frame::I(
-        SendNumber(number_at(f, 2)),
-        ReceiveNumber(number_at(f, 4)),
-    ))
+    let send = SendNumber(number_at(f, 2));
+    let receive = ReceiveNumber(number_at(f, 4));
+    Ok(Frame::I(send, receive))
 }
 
 #[tactic(auto, unfolding(crate::specs::Reading::frame_answer))]

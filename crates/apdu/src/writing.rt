@@ -69,9 +69,14 @@ fn check_numbers(send: SendNumber, receive: ReceiveNumber) -> Result<(), Refusal
 
 // An I frame from a record. What the record refuses comes before an output that is too short.
 #[tactic(auto, unfolding(crate::specs::Writing::i_refusal, crate::specs::Writing::answer_for, crate::specs::Writing::output_for, elements::specs::Refusals::refusal))]
-pub fn write_i(send: SendNumber, receive: ReceiveNumber, asdu: Asdu, out: &mut [u8]) -> Result<usize, Refusal>
-    ensures value { result ≡ answer_for (i_refusal send.0 receive.0 asdu (length out.old)) (i_octets send.0 receive.0 (asdu_octets asdu)) }
-    ensures out_after { out.new ≡ output_for (i_refusal send.0 receive.0 asdu (length out.old)) (i_octets send.0 receive.0 (asdu_octets asdu)) out.old }
+pub fn write_i(
+    send: SendNumber,
+    receive: ReceiveNumber,
+    asdu: &Asdu,
+    out: &mut [u8],
+) -> Result<usize, Refusal>
+    ensures value { result ≡ answer_for (i_refusal send.0 receive.0 asdu.now (length out.old)) (i_octets send.0 receive.0 (asdu_octets asdu.now)) }
+    ensures out_after { out.new ≡ output_for (i_refusal send.0 receive.0 asdu.now (length out.old)) (i_octets send.0 receive.0 (asdu_octets asdu.now)) out.old }
 {
     check_numbers(send, receive)?;
     if out.len() < frame::ASDU_START {

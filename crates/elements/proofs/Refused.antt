@@ -11,6 +11,7 @@ use Rattle.std.specs.Prelude.{Result, Ok, Err}
 use Rattle.laws.specs.Choice.{pick}
 use Rattle.elements.specs.Refusals.{number, refusal, answer, answer_number}
 use Rattle.elements.specs.declared.refusals.Refusal.{Refusal}
+use Rattle.elements.specs.declared.refusals.Refusal.TheVariants as Refusal
 
 -- all 33 rows, looked at one by one
 rows : every (λ (i : ℕ). eqb (number (refusal (suc i))) (suc i)) 33 ≡ true
@@ -21,6 +22,55 @@ pub number_of_refusal : (n : ℕ) → 1 ≤ n → n ≤ 33 → number (refusal n
 number_of_refusal zero low high = absurd (omega arith)
 number_of_refusal (suc i) low high =
     eqb-true (number (refusal (suc i))) (suc i) ((every_iff (λ (i : ℕ). eqb (number (refusal (suc i))) (suc i)) 33).0 rows i (omega arith))
+
+-- its number is from 1 to 33
+pub number_range : (r : Refusal) → (1 ≤ number r) × (number r ≤ 33)
+number_range Refusal.FrameTooShort = (omega arith, omega arith)
+number_range Refusal.WrongStart = (omega arith, omega arith)
+number_range Refusal.FrameTooLong = (omega arith, omega arith)
+number_range Refusal.LengthMismatch = (omega arith, omega arith)
+number_range Refusal.IWithoutAsdu = (omega arith, omega arith)
+number_range Refusal.BadUControl = (omega arith, omega arith)
+number_range Refusal.BadSControl = (omega arith, omega arith)
+number_range Refusal.BadIControl = (omega arith, omega arith)
+number_range Refusal.AsduTooShort = (omega arith, omega arith)
+number_range Refusal.CauseNotListed = (omega arith, omega arith)
+number_range Refusal.TypeNotCarried = (omega arith, omega arith)
+number_range Refusal.LayoutMismatch = (omega arith, omega arith)
+number_range Refusal.EmptySequence = (omega arith, omega arith)
+number_range Refusal.WrongAddress = (omega arith, omega arith)
+number_range Refusal.ValueOutOfRange = (omega arith, omega arith)
+number_range Refusal.WrongKind = (omega arith, omega arith)
+number_range Refusal.AsduTooLong = (omega arith, omega arith)
+number_range Refusal.OutputTooShort = (omega arith, omega arith)
+number_range Refusal.OutsideLimits = (omega arith, omega arith)
+number_range Refusal.LinkClosed = (omega arith, omega arith)
+number_range Refusal.ClockWentBack = (omega arith, omega arith)
+number_range Refusal.ClockTooLate = (omega arith, omega arith)
+number_range Refusal.LinkOutputTooShort = (omega arith, omega arith)
+number_range Refusal.PoolTooShort = (omega arith, omega arith)
+number_range Refusal.QueueFull = (omega arith, omega arith)
+number_range Refusal.NotPlainForm = (omega arith, omega arith)
+number_range Refusal.WrongReceiveNumber = (omega arith, omega arith)
+number_range Refusal.WrongSendNumber = (omega arith, omega arith)
+number_range Refusal.UNotAnswered = (omega arith, omega arith)
+number_range Refusal.UTimedOut = (omega arith, omega arith)
+number_range Refusal.ITimedOut = (omega arith, omega arith)
+number_range Refusal.TooManyTests = (omega arith, omega arith)
+number_range Refusal.BadCarry = (omega arith, omega arith)
+
+pub number_some : (r : Refusal) → number r ≡ 0 → ⊥
+number_some r e = let h = (number_range r).0 in omega arith
+
+pub answer_high : {A : Type 0} (a : Result A Refusal) → answer_number a ≤ 33
+answer_high (Ok made) = omega arith
+answer_high (Err r) = (number_range r).1
+
+-- where it is low, so is the refusal's number
+pub number_low : (m n : ℕ) → 1 ≤ m → m ≤ 33 → n ≤ m → number (refusal n) ≤ m
+unfolding refusal
+number_low m zero some high h = omega arith
+number_low m (suc n) some high h = let e = number_of_refusal (suc n) (omega arith) (omega arith) in rw e h
 
 -- ---- what an answer shows
 

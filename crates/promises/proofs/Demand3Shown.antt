@@ -13,7 +13,6 @@ use Rattle.objects.specs.Objects.{object_of, object_answer}
 use Rattle.asdu.specs.Header.{cause_listed, step_of, needed, header_in, layout_refusal, early_refusal, header_refusal, header_answer}
 use Rattle.asdu.specs.Reading.{object_in, answer_at, first_number, objects_refusal, read_refusal}
 use Rattle.asdu.specs.Plain.{plain_element, plain_objects, plain_answer}
-use Rattle.asdu.specs.declared.PlainAnswer.TheVariants as PlainAnswer
 use Rattle.apdu.specs.Reading.{outer_refusal, short_answer, long_answer, frame_answer, asdu_part}
 use Rattle.apdu.specs.Writing.{i_octets}
 use Rattle.assembly.specs.Start as starts
@@ -29,6 +28,8 @@ use Rattle.link.specs.Events.{closing, accepting, release, s_freeing, on_s, rece
 use Rattle.link.specs.Answering.{answer_of, called_of}
 use Rattle.promises.specs.Demand3.{Call, answered, pool_after, opening, after}
 use Rattle.promises.specs.Demand3Runs.{small, first, second, i_with, s_with, Shown}
+use Rattle.std.specs.Prelude.{Ok}
+use Rattle.asdu.specs.declared.Form.TheVariants.{Plain}
 
 -- bytes, by a test of each
 abbrev bytes : List ℕ → Bool
@@ -66,7 +67,7 @@ last =
     (at 40 (frame (s_with 0x02) false)))
     (at 50 (frame (s_with 0x06) false))
 
-pub first_plain : plain_answer first ≡ PlainAnswer.Plain
+pub first_plain : plain_answer first ≡ Ok Plain
 unfolding le_of object_of object_answer every cause_listed step_of needed header_in layout_refusal early_refusal header_refusal header_answer object_in answer_at first_number objects_refusal read_refusal plain_element plain_objects plain_answer
 first_plain = refl
 

@@ -19,7 +19,6 @@ use Rattle.objects.specs.Elements.{element_of, value_refusal}
 use Rattle.objects.specs.Objects.{blank, object_of, object_octets, kind_refusal, address_refusal, object_refusal}
 use Rattle.objects.specs.Promises.{kept_by}
 use Rattle.objects.specs.declared.kinds.Kind.{Kind}
-use Rattle.objects.specs.declared.kinds.KindAnswer.TheVariants.{Carried}
 use Rattle.objects.specs.declared.Object.{Object}
 use Rattle.objects.proofs.TypeNumbers.{kind_type}
 use Rattle.objects.proofs.Elements.{element_level, kept_wholes}
@@ -32,6 +31,7 @@ use Rattle.asdu.specs.declared.ReadAsdu.{ReadAsdu}
 use Rattle.asdu.proofs.Lengths.{some_passes, needed_parts, needed_next}
 use Rattle.promises.specs.Asdus.{times, body_form, asdu_form, WrittenAgain, AsduWritesAgain}
 use Rattle.promises.proofs.Bodies.{head_read, Accepted, accepted, header_taken, rising, read_is, own_back}
+use Rattle.std.specs.Prelude.{Some}
 
 -- ---- what forms keep
 
@@ -170,7 +170,7 @@ first_filled f (suc n) h = refl
 -- ---- what the writer accepts
 
 -- the record: no refusal of cause, type, shape, objects or room
-record_accepted : (a : Asdu) (k : Kind) (room : ℕ) → cause_listed a.cause ≡ true → kind_of a.type_id ≡ Carried k → a.count ≤ 127
+record_accepted : (a : Asdu) (k : Kind) (room : ℕ) → cause_listed a.cause ≡ true → kind_of a.type_id ≡ Some k → a.count ≤ 127
     → (a.sequence ≡ true → (1 ≤ a.count) × (1 ≤ size_of k)) → first_refusal k a.sequence (first_address a) 0 (own_objects a) ≡ 0
     → needed k a.sequence a.count ≤ 249 → needed k a.sequence a.count ≤ room → write_refusal a room ≡ 0
 unfolding write_refusal write_refusal_by shape_refusal size_refusal

@@ -1,7 +1,11 @@
 use Prim.Native.Nat.{ℕ, ◌+◌, ◌-◌, ◌≤◌}
-use mathlib.Core.Path.{◌≡◌, sym, ap, ◌∙◌}
+use mathlib.Core.Path.{◌≡◌, refl, sym, ap, ◌∙◌}
 use native.Mathlib.Omega.{arith}
 use lib.ListN.{length}
+use Rattle.std.specs.Prelude.{Result, Err}
+use Rattle.std.specs.Result.{result_and}
+use Rattle.elements.specs.declared.refusals.Refusal.{Refusal}
+use Rattle.elements.specs.declared.refusals.Refusal.TheVariants as Refusal
 use Rattle.elements.proofs.Refused.{made_some}
 use Rattle.asdu.specs.Writing.{write_refusal, asdu_octets}
 use Rattle.apdu.specs.Writing.{i_octets, i_refusal}
@@ -9,44 +13,51 @@ use Rattle.apdu.proofs.Answers.{refuse, accept, then_goes, record_refused, asdu_
 use Rattle.apdu.proofs.writing.write_i.Goals as goal
 
 pub returns-then-out-lt-ASDU_START : goal.returns-then-out-lt-ASDU_START
-returns-then-out-lt-ASDU_START c = ?
+unfolding i_refusal
+returns-then-out-lt-ASDU_START c =
+    let a = c.args in
+    let passed = made_some _ tt _ (sym c.check_numbers.ensures.value ∙ c.in_ok-check_numbers.was) in
+    let no_room : length a.out.now - 6 ≡ 0 = omega (arith, c.if-out-lt-ASDU_START.true) in
+    let both = refuse _ _ _ (then_goes _ _ passed ∙ ap (write_refusal a.asdu.now) no_room) (record_refused a.asdu.now) refl in
+    let is = c.and.ensures ∙ (ap (λ (r : Result (Unit {0}) Refusal). result_and r (Err Refusal.OutputTooShort)) c.check_write.ensures ∙ rw (record_refused a.asdu.now)) in
+    record { value = is ∙ both.0; out_after = both.1 }
 
 pub returns-in_err-n : goal.returns-in_err-n
 unfolding i_refusal
 returns-in_err-n c =
     let a = c.args in
     let passed = made_some _ tt _ (sym c.check_numbers.ensures.value ∙ c.in_ok-check_numbers.was) in
-    let both = asdu_refuses a.asdu a.out.now c.write_asdu.ensures.value _ c.in_err-n.was c.write_asdu.ensures.out_after (then_goes _ _ passed) in
+    let both = asdu_refuses a.asdu.now a.out.now c.write_asdu.ensures.value _ c.in_err-n.was c.write_asdu.ensures.out_after (then_goes _ _ passed) in
     record { value = both.0; out_after = both.1 }
 
 pub overflow_add-n : goal.overflow_add-n
 overflow_add-n c =
-    let l : length c.args.asdu.objects ≡ 127 = c.well_formed.1.1.0.1.1.0.1.0.1 in
-    let fits = asdu_fits c.args.asdu c.args.out.now c.write_asdu.ensures.value c.in_ok-n.was l in
+    let l : length c.args.asdu.now.objects ≡ 127 = c.well_formed.1.1.0.1.1.0.1.0.1 in
+    let fits = asdu_fits c.args.asdu.now c.args.out.now c.write_asdu.ensures.value c.in_ok-n.was l in
     omega (arith, fits.2)
 
 pub overflow_cast-n : goal.overflow_cast-n
 overflow_cast-n c =
-    let l : length c.args.asdu.objects ≡ 127 = c.well_formed.1.1.0.1.1.0.1.0.1 in
-    let fits = asdu_fits c.args.asdu c.args.out.now c.write_asdu.ensures.value c.in_ok-n.was l in
+    let l : length c.args.asdu.now.objects ≡ 127 = c.well_formed.1.1.0.1.1.0.1.0.1 in
+    let fits = asdu_fits c.args.asdu.now c.args.out.now c.write_asdu.ensures.value c.in_ok-n.was l in
     omega (arith, fits.2)
 
 pub overflow_add-result : goal.overflow_add-result
 overflow_add-result c =
-    let l : length c.args.asdu.objects ≡ 127 = c.well_formed.1.1.0.1.1.0.1.0.1 in
-    let fits = asdu_fits c.args.asdu c.args.out.now c.write_asdu.ensures.value c.in_ok-n.was l in
+    let l : length c.args.asdu.now.objects ≡ 127 = c.well_formed.1.1.0.1.1.0.1.0.1 in
+    let fits = asdu_fits c.args.asdu.now c.args.out.now c.write_asdu.ensures.value c.in_ok-n.was l in
     omega (arith, fits.2)
 
 pub returns : goal.returns
 unfolding i_refusal
 returns c =
-    let l : length c.args.asdu.objects ≡ 127 = c.well_formed.1.1.0.1.1.0.1.0.1 in
-    let fits = asdu_fits c.args.asdu c.args.out.now c.write_asdu.ensures.value c.in_ok-n.was l in
+    let l : length c.args.asdu.now.objects ≡ 127 = c.well_formed.1.1.0.1.1.0.1.0.1 in
+    let fits = asdu_fits c.args.asdu.now c.args.out.now c.write_asdu.ensures.value c.in_ok-n.was l in
     let passed = made_some _ tt _ (sym c.check_numbers.ensures.value ∙ c.in_ok-check_numbers.was) in
     let a = c.args in
     let w = c.write_asdu in
-    let stored = asdu_stored a.asdu a.out.now w.ensures.value c.in_ok-n.was l w.ensures.out_after in
-    let octets = asdu_octets a.asdu in
+    let stored = asdu_stored a.asdu.now a.out.now w.ensures.value c.in_ok-n.was l w.ensures.out_after in
+    let octets = asdu_octets a.asdu.now in
     let room : 6 + length octets ≤ length a.out.now = omega (arith, fits.1, fits.3, c.if-out-lt-ASDU_START.false) in
     let both = accept (i_octets a.send.0 a.receive.0 octets) a.out.now
     (then_goes _ _ passed ∙ fits.0)
