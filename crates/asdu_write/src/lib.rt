@@ -1,9 +1,11 @@
 // Writing an ASDU into a lent output (asdu.rs, `Asdu::to_bytes`).
 #![tactic(auto)]
 
-ghost use Rattle.std.specs.Prelude.{◌≡◌, ◌+◌, ◌≤◌, length, IfOk};
+ghost use Rattle.std.specs.Prelude.{◌≡◌, ◌+◌, ◌≤◌, [], ◌∷◌, length, IfOk};
 ghost use Rattle.std.proofs.lemmas.List.Edits.{sets};
+ghost use Rattle.laws.specs.Bits.{num, octet};
 ghost use Rattle.elements.specs.Refusals.{answer};
+ghost use Rattle.asdu.specs.Header.{count_layout, cause_layout};
 ghost use Rattle.asdu.specs.Writing.{first_refusal, shape_refusal, size_refusal, write_refusal, header_octets, address_octets, body_octets, objects_octets, asdu_octets, write_answer, written};
 ghost use Rattle.asdu.specs.Puts.{Put};
 
@@ -64,18 +66,28 @@ pub fn check_write(a: &Asdu, room: usize) -> Result<(), Refusal>
     check_size(header::needed_len(kind, a.sequence, a.count as u8), room)
 }
 
+fn count_octet(a: &Asdu) -> u8
+    requires { a.now.count ≤ 127 }
+    ensures { result ≡ octet count_layout (a.now.count ∷ num a.now.sequence ∷ []) }
+{
+    (a.count as u8) + laws::bit(a.sequence) * 128
+}
+
+fn cause_octet(a: &Asdu) -> u8
+    requires { a.now.cause ≤ 63 }
+    ensures { result ≡ octet cause_layout (a.now.cause ∷ num a.now.negative ∷ num a.now.test ∷ []) }
+{
+    a.cause + laws::bit(a.negative) * 64 + laws::bit(a.test) * 128
+}
+
 #[tactic(auto, unfolding(asdu::specs::Writing::header_octets))]
 fn put_header(out: &mut [u8], a: &Asdu)
     requires { (a.now.count ≤ 127) × (a.now.cause ≤ 63) }
     ensures { out.new ≡ sets out.old 0 (header_octets a.now) }
 {
     laws::put_octet(out, 0, a.type_id);
-    laws::put_octet(out, 1, (a.count as u8) + laws::bit(a.sequence) * 128);
-    laws::put_octet(
-        out,
-        2,
-        a.cause + laws::bit(a.negative) * 64 + laws::bit(a.test) * 128,
-    );
+    laws::put_octet(out, 1, count_octet(a));
+    laws::put_octet(out, 2, cause_octet(a));
     laws::put_octet(out, 3, a.originator);
     laws::put_le::<2>(out, 4, a.address as u32);
 }
