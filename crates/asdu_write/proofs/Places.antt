@@ -75,6 +75,9 @@ module _ (a : Asdu) (room : ℕ) (h : write_refusal a room ≡ 0) where
     pub room_enough : length (asdu_octets a) ≤ room
     room_enough = let (k, w) = writable a room h in omega (arith, asdu_long k a room w l, w.enough)
 
+    pub asdu_small : length (asdu_octets a) ≤ 249
+    asdu_small = let (k, w) = writable a room h in omega (arith, asdu_long k a room w l, w.short)
+
 -- header, address and objects, stored one after the other, are its octets
 pub parts_stored : (a : Asdu) (l : List ℕ) {l₁ l₂ l₃ : List ℕ} {r r' : ℕ} → write_refusal a (length l) ≡ 0 → length a.objects ≡ 127
     → l₁ ≡ sets l 0 (header_octets a)

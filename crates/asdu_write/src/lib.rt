@@ -1,7 +1,7 @@
 // Writing an ASDU into a lent output (asdu.rs, `Asdu::to_bytes`).
 #![tactic(auto)]
 
-ghost use Rattle.std.specs.Prelude.{◌≡◌, ◌+◌, ◌≤◌, [], ◌∷◌, length};
+ghost use Rattle.std.specs.Prelude.{◌≡◌, ◌+◌, ◌≤◌, [], ◌∷◌, length, IfOk};
 ghost use Rattle.std.proofs.lemmas.List.Edits.{sets};
 ghost use Rattle.laws.specs.Bits.{num, octet};
 ghost use Rattle.elements.specs.Refusals.{answer};
@@ -131,10 +131,11 @@ fn put_bodies(out: &mut [u8], from: usize, sequence: bool, own: &[Object]) -> us
     at
 }
 
-#[tactic(auto, using(crate::proofs::Places::fields_fit, crate::proofs::Places::bodies_room, crate::proofs::Places::room_enough, crate::proofs::Places::put_long, crate::proofs::Places::parts_stored), unfolding(asdu::specs::Writing::write_answer, asdu::specs::Writing::written))]
+#[tactic(auto, using(crate::proofs::Places::fields_fit, crate::proofs::Places::bodies_room, crate::proofs::Places::room_enough, crate::proofs::Places::asdu_small, crate::proofs::Places::put_long, crate::proofs::Places::parts_stored), unfolding(asdu::specs::Writing::write_answer, asdu::specs::Writing::written))]
 pub fn write_asdu(a: &Asdu, out: &mut [u8]) -> Result<usize, Refusal>
     ensures value { result ≡ write_answer a.now (length out.old) }
     ensures out_after { out.new ≡ written a.now out.old }
+    ensures bounds { IfOk result (λ n. (n ≤ 249) × (n ≤ length out.old)) }
 {
     check_write(a, out.len())?;
     put_header(out, a);
