@@ -1,5 +1,5 @@
 // The proved library for the programs that test it: host/ links these functions as `bridge_c` hands them on to C, and replay
-// and drive_frames call them. An element is the list of its fields (bridge_records, fields.rt). What may be refused is
+// calls them. An element is the list of its fields (bridge_records, fields.rt). What may be refused is
 // written to `out`, with the number of the refusal as the result, 0 for none. A list that is too short reads as 0 and takes
 // nothing past its end, so no call can fail. Frames are in `bridge_frames`.
 #![tactic(auto)]

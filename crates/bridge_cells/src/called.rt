@@ -4,12 +4,6 @@ use crate::cells::InCells;
 use link::answers::{Called, Done, LinkAnswer};
 use link_state::Link;
 
-pub const WRITTEN: usize = 71;
-
-pub const FULL: usize = 72;
-
-pub const CAME: usize = 73;
-
 pub fn put(list: &mut [u64], link: Link, done: Done) {
     let mut rest = list;
     link.put(&mut rest);

@@ -8,7 +8,7 @@ use link_state::opening;
 
 // With the settings that the list has.
 pub fn gg_link_open(list: &mut [u64], moment: u64) -> u32 {
-    let opened = opening::open(cells::settings_in(list), moment);
+    let opened = opening::open(cells::link_in(list).state.settings, moment);
     let nothing = Done {
         written: 0,
         full: false,
