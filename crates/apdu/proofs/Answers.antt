@@ -19,8 +19,7 @@ use Rattle.asdu.specs.Writing.{write_refusal, asdu_octets, write_answer, written
 use Rattle.asdu.specs.declared.Asdu.{Asdu}
 use Rattle.std.specs.Prelude.{Result, Ok, Err}
 use Rattle.laws.proofs.Choices.{passed, both}
-use Rattle.asdu.proofs.Lengths.{writable, asdu_long}
-use Rattle.asdu_write.proofs.Places.{room_enough}
+use Rattle.asdu.proofs.Lengths.{writable}
 use Rattle.apdu.specs.Control.{u_octet}
 use Rattle.apdu.specs.declared.frame.UFrame.{UFrame}
 use Rattle.apdu.specs.Writing.{start_octets, i_octets, s_octets, u_octets, number_refusal, numbers_refusal, room_refusal, answer_for, output_for}
@@ -61,11 +60,7 @@ numbers_small s r h = let n = both _ _ h in (number_small s n.0, number_small r 
 
 -- ---- how long an ASDU is
 
--- a record that is not refused has at most 249 octets
-record_small : (a : Asdu) (room : ℕ) → write_refusal a room ≡ 0 → length a.objects ≡ 127 → length (asdu_octets a) ≤ 249
-record_small a room h l = let (k, w) = writable a room h in omega (arith, asdu_long k a room w l, w.short)
-
--- and no record goes into an output without room
+-- no record goes into an output without room
 pub record_refused : (a : Asdu) → eqb (write_refusal a 0) 0 ≡ false
 unfolding needed
 record_refused a = ne_eqb (write_refusal a 0) 0 (λ h. let (k, w) = writable a 0 h in at_least k a.sequence a.count w.enough)
@@ -167,16 +162,9 @@ module _ (a : Asdu) (out : List ℕ) {w : Result ℕ Refusal} (answered : w ≡ 
       let answers = refuse (write_refusal a (length (part out))) octets out (same ∙ ap (write_refusal a) (sym (part_long out))) o.0 o.1 in
       (answers.0, rest_sets out 6 [] (stored ∙ written_none a (part out) o.0) ∙ answers.1)
 
-  pub asdu_fits : {n : ℕ} → w ≡ Ok n → length a.objects ≡ 127
-      → (write_refusal a (length out - 6) ≡ 0) × (n ≡ length (asdu_octets a)) × (n ≤ 249) × (n ≤ length out - 6)
-  asdu_fits e l =
-      let o = told e in
-      let fits = (room_enough a (length (part out)) o.0 l).0 in
-      let small = record_small a (length (part out)) o.0 l in
-      (ap (write_refusal a) (sym (part_long out)) ∙ o.0, o.1, omega (arith, o.1, small), omega (arith, o.1, fits, part_long out))
+  pub asdu_fits : {n : ℕ} → w ≡ Ok n → n ≤ length (part out) → (write_refusal a (length out - 6) ≡ 0) × (n ≡ length (asdu_octets a)) × (n ≤ length out - 6)
+  asdu_fits e h = let o = told e in (ap (write_refusal a) (sym (part_long out)) ∙ o.0, o.1, omega (arith, h, part_long out))
 
-  pub asdu_stored : {n : ℕ} {s : List ℕ} → w ≡ Ok n → length a.objects ≡ 127 → s ≡ written a (part out)
+  pub asdu_stored : {n : ℕ} {s : List ℕ} → w ≡ Ok n → n ≤ length (part out) → s ≡ written a (part out)
       → take 6 out ++ (s ++ drop (length out - 6) (drop 6 out)) ≡ sets out 6 (asdu_octets a)
-  asdu_stored e l stored =
-      let o = told e in
-      rest_sets out 6 (asdu_octets a) (stored ∙ written_some a (part out) o.0 (room_enough a (length (part out)) o.0 l).0)
+  asdu_stored e h stored = let o = told e in rest_sets out 6 (asdu_octets a) (stored ∙ written_some a (part out) o.0 (omega (arith, h, o.1)))

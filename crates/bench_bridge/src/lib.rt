@@ -45,7 +45,7 @@ pub extern "C" fn gb_write(f: &[u8], out: &mut [u8], times: u32) -> u32 {
     let mut length: usize = 0;
     for i in 0..times {
         asdu.originator = laws::low(i);
-        let Ok(n) = writing::write_i(SendNumber(2), ReceiveNumber(3), asdu, out) else {
+        let Ok(n) = writing::write_i(SendNumber(2), ReceiveNumber(3), &asdu, out) else {
             return 0;
         };
         length = n;

@@ -18,7 +18,7 @@ pub fn gg_asdu_plain(s: &[u8]) -> u32 {
 }
 
 pub fn gg_asdu_write(record: &[u8], out: &mut [u8]) -> u32 {
-    answers::length(asdu_write::write_asdu(records::record_in(record), out))
+    answers::length(asdu_write::write_asdu(&records::record_in(record), out))
 }
 
 pub fn gg_asdu_rewrite(s: &[u8], out: &mut [u8]) -> u32 {
@@ -26,5 +26,5 @@ pub fn gg_asdu_rewrite(s: &[u8], out: &mut [u8]) -> u32 {
     if answer.is_err() {
         return answers::READING_REFUSED + answers::number(answer);
     }
-    answers::length(asdu_write::write_asdu(asdu, out))
+    answers::length(asdu_write::write_asdu(&asdu, out))
 }

@@ -35,8 +35,9 @@ fn flags_of(u: UFrame) -> [bool; 6] {
 
 // From the six flags alone.
 pub fn u_in(flags: &[u8]) -> UFrame {
-    let [start_act, start_con, stop_act, stop_con, test_act, test_con] =
-        fields::take::<[bool; 6]>(flags);
+    let [start_act, start_con, stop_act, stop_con, test_act, test_con] = fields::take::<[bool; 6]>(
+        flags,
+    );
     UFrame {
         start_act,
         start_con,

@@ -39,7 +39,7 @@ pub fn gg_frame_write_u(flags: &[u8], out: &mut [u8]) -> u32 {
 
 pub fn gg_frame_write_i(send: u16, receive: u16, record: &[u8], out: &mut [u8]) -> u32 {
     let asdu = records::record_in(record);
-    answers::length(writing::write_i(SendNumber(send), ReceiveNumber(receive), asdu, out))
+    answers::length(writing::write_i(SendNumber(send), ReceiveNumber(receive), &asdu, out))
 }
 
 pub fn gg_frame_write_i_octets(send: u16, receive: u16, asdu: &[u8], out: &mut [u8]) -> u32 {
@@ -51,7 +51,7 @@ fn write_again(f: &[u8], frame: Frame, out: &mut [u8]) -> Result<usize, Refusal>
     match frame {
         Frame::I(send, receive) => {
             let asdu = asdu_read::read_record(reading::asdu_of(f));
-            writing::write_i(send, receive, asdu, out)
+            writing::write_i(send, receive, &asdu, out)
         }
         Frame::S(receive) => writing::write_s(receive, out),
         Frame::U(u) => writing::write_u(u, out),

@@ -28,7 +28,7 @@ use std::io::Read;
 use test_text::LINE_SIZE;
 use test_text::wrong::Wrong;
 
-// The bytes of a line that have come.
+// The bytes of a line that have come. An array and a length: the program takes no memory but its own.
 #[derive(Drop)]
 struct Line {
     bytes: [u8; LINE_SIZE],

@@ -1,29 +1,27 @@
 -- The header in the octets of an ASDU, and what an accepted list of octets shows. Assumes nothing.
 use Prim.Native.Nat.{ℕ, ◌+◌, ◌<◌, ◌≤◌}
 use mathlib.Core.Path.{◌≡◌, refl, sym, ap, ◌∙◌}
-use mathlib.Core.Bool.{Bool, true, false, not}
+use mathlib.Core.Bool.{Bool, true, not}
 use mathlib.Core.List.{List, [], ◌∷◌, ◌++◌}
 use native.Mathlib.Omega.{arith}
 use native.Mathlib.Decide.{dec_le}
 use lib.ListN.{length, get_or, take, drop, replicate, length-drop}
 use lib.Seq.{drop_at}
 use lib.Dec.{eqb, ltb}
-use borrow.Author.Tests.{eqb-true, eqb-false, ltb-false, not-false, le-ltb, eq-eqb}
+use borrow.Author.Tests.{eqb-true, ltb-false, not-false, le-ltb, eq-eqb}
 use Rattle.laws.specs.Bits.{field, flag, num, octet}
-use Rattle.laws.specs.Choice.{pick}
 use Rattle.laws.specs.Lists.{Octets, padded}
 use Rattle.laws.specs.Numbers.{le_of, le_octets}
 use Rattle.laws.proofs.Layouts.{fields_octet, flag_num, num_flag, num_fits, kept_whole}
 use Rattle.laws.proofs.Choices.{passed, held, both}
 use Rattle.laws.proofs.Lists.{octet_fits, octets_drop, take_padded}
 use Rattle.laws.proofs.Numbers.{reads_back, writes_again, le_fits}
-use Rattle.elements.specs.Refusals.{refusal}
 use Rattle.objects.specs.Kinds.{type_of, kind_of, size_of}
 use Rattle.objects.specs.Objects.{blank}
 use Rattle.objects.specs.declared.kinds.Kind.{Kind}
 use Rattle.objects.specs.declared.Object.{Object}
 use Rattle.objects.proofs.TypeNumbers.{kind_type, type_kind}
-use Rattle.asdu.specs.Header.{count_layout, cause_layout, cause_listed, needed, sequence_in, count_in, cause_in, header_in, early_refusal, layout_refusal, header_refusal_by, header_refusal, header_by, header_answer}
+use Rattle.asdu.specs.Header.{count_layout, cause_layout, cause_listed, needed, sequence_in, count_in, cause_in, header_in, early_refusal, layout_refusal, header_refusal_by, header_refusal, header_answer}
 use Rattle.asdu.specs.Records.{filled, blanks, asdu_of}
 use Rattle.asdu.specs.Reading.{objects_refusal, objects_in, objects_refusal_by, read_refusal, read_asdu}
 use Rattle.asdu.specs.declared.header.Header.{Header}
@@ -31,7 +29,7 @@ use Rattle.asdu.proofs.Checked.{read_passes, checked_is}
 use Rattle.asdu.proofs.Starts.{accepts}
 use Rattle.asdu.proofs.Walk.{sequence_high}
 use Rattle.asdu.proofs.Lengths.{some_of, some_passes, listed_small}
-use Rattle.std.specs.Prelude.{Option, Some, None, Ok, Err}
+use Rattle.std.specs.Prelude.{Option, Some, None, Ok}
 
 -- ---- the header's octets
 

@@ -4,7 +4,7 @@ use mathlib.Core.Path.{◌≡◌, refl, sym, ap, subst, ◌∙◌}
 use mathlib.Core.Bool.{Bool, true, false, ◌&&◌, ◌||◌}
 use mathlib.Core.List.{List, [], ◌++◌}
 use native.Mathlib.Omega.{arith}
-use borrow.Author.Tests.{eqb-true, eqb-false, ltb-false, eq-eqb, ne_eqb, le-leb, lt-leb}
+use borrow.Author.Tests.{eqb-true, ltb-false, eq-eqb, ne_eqb, le-leb, lt-leb}
 use lib.ListN.{length, get_or, drop}
 use lib.Dec.{eqb, leb, ltb}
 use Rattle.laws.specs.Choice.{pick}
@@ -198,13 +198,13 @@ module _ (s : State) (times pool : List ℕ) (now : ℕ) where
 
     s_ending : is_i (brings came_in) ≡ false → (t : Bool) (d : ℕ)
         → Ending came_in s times pool now (s_freeing (pick {A = Result ℕ Refusal} t (Ok d) (Err (refusal wrong_receive_number))) s times pool more now)
-    unfolding s_freeing accepting
+    unfolding s_freeing accepting refusal
     s_ending is true d = accepted refl (sym is) (ending_clock more now _) (λ z m. (settled_by more now _ m).most)
     s_ending is false d = ended wrong_receive_number (shuts came_in 27 (omega arith) (omega arith)) (omega arith) (omega arith) refl
 
     i_ending : is_i (brings came_in) ≡ true → (t : Bool) (d : ℕ)
         → Ending came_in s times pool now (i_freeing (pick {A = Result ℕ Refusal} t (Ok d) (Err (refusal wrong_receive_number))) s times pool more now)
-    unfolding i_freeing accepting
+    unfolding i_freeing accepting refusal
     i_ending is true d = accepted refl (sym is) (ending_clock more now _) (λ z m. (settled_by more now _ m).most)
     i_ending is false d = ended wrong_receive_number (shuts came_in 27 (omega arith) (omega arith)) (omega arith) (omega arith) refl
 
@@ -346,16 +346,16 @@ module _ (c : Call) (l : Link) (pool : List ℕ) where
   abbrev o : Outcome
   o = outcome_of c l pool
 
-  number : (entry_of c l pool).number ≡ o.refused
+  number_law : (entry_of c l pool).number ≡ o.refused
   unfolding called_of
-  number = number_is o (called_most c.event l pool (length c.output) c.now)
+  number_law = number_is o (called_most c.event l pool (length c.output) c.now)
 
   -- a refused one
   left : {q : Outcome} → o ≡ q → q.frames ≡ [] → q.pool ≡ pool → q.refused ≤ 33 → 1 ≤ q.refused
       → record { times = q.times; state = q.state } ≡ pick (closes c.event q.refused) (closed_by q.refused l) l → LinkCall c l pool
   unfolding called_of wire
   left {q} is silent same small low after =
-      let n : (entry_of c l pool).number ≡ q.refused = number ∙ ap (λ (x : Outcome). x.refused) is in
+      let n : (entry_of c l pool).number ≡ q.refused = number_law ∙ ap (λ (x : Outcome). x.refused) is in
       let never : (entry_of c l pool).number ≡ 0 → ⊥ = λ z. omega arith in
       record {
         numbered = omega arith;
@@ -364,7 +364,7 @@ module _ (c : Call) (l : Link) (pool : List ℕ) where
         link_after_law = λ h. rw n (ap (λ (x : Outcome). record { times = x.times; state = x.state }) is ∙ after);
         clocked = λ z. absurd (never z);
         full = λ z. absurd (never z);
-        came = came_is o number (λ z. absurd (never (number ∙ z)));
+        came = came_is o number_law (λ z. absurd (never (number_law ∙ z)));
         confirmed = λ z. absurd (never z);
       }
 
@@ -372,7 +372,7 @@ module _ (c : Call) (l : Link) (pool : List ℕ) where
   taken : o.refused ≡ 0 → o.came ≡ is_i (brings c.event) → o.state.clock ≡ c.now → Confirmed c.event o.state → LinkCall c l pool
   unfolding called_of
   taken z came clock low =
-      let n = number in
+      let n = number_law in
       record {
         numbered = omega arith;
         output_same = λ h. absurd (omega arith);
@@ -380,7 +380,7 @@ module _ (c : Call) (l : Link) (pool : List ℕ) where
         link_after_law = λ h. absurd (omega arith);
         clocked = λ y. clock;
         full = λ y. full_is o z;
-        came = came_is o number (λ y. came);
+        came = came_is o number_law (λ y. came);
         confirmed = λ y. low;
       }
 

@@ -5,7 +5,7 @@ use mathlib.Core.Bool.{Bool, true, false}
 use mathlib.Core.List.{List, [], ◌∷◌, ◌++◌, append_assoc}
 use native.Mathlib.Omega.{arith}
 use native.Mathlib.Nat.{add-zero, le_refl, mod-eq_of_lt}
-use borrow.Author.Tests.{eqb-true, eqb-false, eq-eqb}
+use borrow.Author.Tests.{eqb-false, eq-eqb}
 use lib.ListN.{length, take, drop, get_or, replicate, length-append, length-drop, length-replicate}
 use lib.Seq.{sets, take_at, drop-drop, drop-append-le, get_or-drop}
 use lib.Dec.{eqb}
@@ -51,13 +51,14 @@ use Rattle.elements.specs.Refusals.{answer_number}
 use Rattle.elements.specs.declared.refusals.Refusal.{Refusal}
 use Rattle.apdu.specs.declared.frame.Frame as read
 use Rattle.apdu.specs.declared.frame.Frame.TheVariants.{I, S, U}
+use Rattle.std.specs.Prelude as prelude
 
 -- ---- what a frame brings
 
 frame_low : (f : List ℕ) → Octets f → number_of (framed (frame_answer f)) ≤ 32767
 frame_low f o = by (frame_answer f) (number_low f o)
   where
-    by : (a : Result read.Frame Refusal) → number_in a ≤ 32767 → number_of (framed a) ≤ 32767
+    by : (a : prelude.Result read.Frame Refusal) → number_in a ≤ 32767 → number_of (framed a) ≤ 32767
     by (Ok (I n r)) h = h
     by (Ok (S r)) h = h
     by (Ok (U u)) h = h
@@ -87,14 +88,14 @@ bytes_are o out silent h = by (eqb o.refused 0) refl
         ∙ take_at (wire o.frames) (drop (length (wire o.frames)) out) (length (wire o.frames)) refl
 
     by : (b : Bool) → eqb o.refused 0 ≡ b
-        → take (link_written (pick {A = Result Done Refusal} b (Ok (record { written = length (wire o.frames); full = window_full o.state; came = o.came })) (Err (refusal o.refused))))
+        → take (link_written (pick {A = prelude.Result Done Refusal} b (Ok (record { written = length (wire o.frames); full = window_full o.state; came = o.came })) (Err (refusal o.refused))))
         (sets out 0 (wire o.frames)) ≡ wire o.frames
     by true e = all
     by false e = unfold wire in sym (ap wire (silent (eqb-false _ _ e)))
 
 written_most : (o : events.Outcome) → link_written (answer_of o) ≤ length (wire o.frames)
 unfolding answer_of
-written_most o = picked (λ (a : Result Done Refusal). link_written a ≤ length (wire o.frames)) (eqb o.refused 0) (le_refl _) (omega arith)
+written_most o = picked (λ (a : prelude.Result Done Refusal). link_written a ≤ length (wire o.frames)) (eqb o.refused 0) (le_refl _) (omega arith)
 
 -- ---- a transcript beside the link by totals and lists
 

@@ -31,6 +31,7 @@ use Rattle.apdu.specs.declared.frame.Frame.TheVariants.{I, S, U}
 use Rattle.apdu.specs.declared.frame.Frame.{Frame}
 use Rattle.asdu.specs.declared.Form.{Form}
 use Rattle.asdu.specs.declared.Form.TheVariants.{Plain, Reserved}
+use Rattle.std.specs.Prelude as prelude
 
 -- ---- what is counted
 
@@ -45,19 +46,19 @@ added n x d y h = by (eqb n 0)
 none_added : (n x : ℕ) → x + 0 ≡ pick (eqb n 0) x x
 none_added n x = add-zero x ∙ sym (pick_same (eqb n 0) x)
 
-received_by_law : (q : Result Frame Refusal) (x : ℕ) → x + counts_by q ≡ received_by (framed q) x
+received_by_law : (q : prelude.Result Frame Refusal) (x : ℕ) → x + counts_by q ≡ received_by (framed q) x
 received_by_law (Ok (I s r)) x = refl
 received_by_law (Ok (S r)) x = add-zero x
 received_by_law (Ok (U u)) x = add-zero x
 received_by_law (Err r) x = add-zero x
 
-confirmed_by_law : (q : Result Frame Refusal) (x : ℕ) → x + frees_by q x ≡ confirmed_by (framed q) x
+confirmed_by_law : (q : prelude.Result Frame Refusal) (x : ℕ) → x + frees_by q x ≡ confirmed_by (framed q) x
 confirmed_by_law (Ok (I s r)) x = refl
 confirmed_by_law (Ok (S r)) x = refl
 confirmed_by_law (Ok (U u)) x = add-zero x
 confirmed_by_law (Err r) x = add-zero x
 
-none_taken : (q : Result Frame Refusal) → taken_by (framed q) ≡ []
+none_taken : (q : prelude.Result Frame Refusal) → taken_by (framed q) ≡ []
 none_taken (Ok (I s r)) = refl
 none_taken (Ok (S r)) = refl
 none_taken (Ok (U u)) = refl
@@ -86,7 +87,7 @@ takes_are tick n = sym (pick_same (eqb n 0) [])
 
 -- ---- what is taken is plain
 
-taken_plain : (x : List ℕ) (p : Result Form Refusal) (now : ℕ) (a : Abstract) → plain_answer x ≡ p → AllPlain (pick (eqb (step_send p x now a).refused 0) (x ∷ []) [])
+taken_plain : (x : List ℕ) (p : prelude.Result Form Refusal) (now : ℕ) (a : Abstract) → plain_answer x ≡ p → AllPlain (pick (eqb (step_send p x now a).refused 0) (x ∷ []) [])
 unfolding step_send refuse
 taken_plain x (Ok Plain) now a e = picked AllPlain (eqb (step_send (Ok Plain) x now a).refused 0) (e, tt) tt
 taken_plain x (Ok Reserved) now a e = tt
@@ -145,7 +146,7 @@ module _ (now : ℕ) (a : Abstract) (within : Within a) where
   abbrev Exactly : Brought → Result → Type 0
   Exactly b r = Exact b r.refused a.sent a.confirmed a.received
 
-  exact_frame : (f : Result Frame Refusal) (more : Bool) → number_of (framed f) ≤ 32767 → Exactly (framed f) (step_frame f more now a)
+  exact_frame : (f : prelude.Result Frame Refusal) (more : Bool) → number_of (framed f) ≤ 32767 → Exactly (framed f) (step_frame f more now a)
   unfolding step_frame
   exact_frame (Ok (I n r)) more h =
       let x = (accepts_exactly now more a n.0 r.0 within (omega arith)).i_frame_accepted in

@@ -3,7 +3,6 @@ use Prim.Native.Nat.{ℕ, ◌+◌, ◌-◌, ◌%◌, ◌≤◌}
 use mathlib.Core.Path.{◌≡◌, refl}
 use native.Mathlib.Omega.{arith}
 use borrow.Author.Tests.{le-leb, lt-leb}
-use Rattle.laws.specs.Choice.{◌then◌}
 use Rattle.laws.specs.Lists.{tabulate, padded}
 use Rattle.laws.specs.Numbers.{le_of}
 use Rattle.objects.specs.Elements.{element_of}

@@ -19,7 +19,6 @@ use Rattle.objects.specs.Kinds.{type_of, kind_of, size_of, value_kind}
 use Rattle.objects.specs.Elements.{value_refusal}
 use Rattle.objects.specs.Objects.{object_answer, kind_refusal, address_refusal, object_refusal}
 use Rattle.objects.specs.declared.values.Value.{Value}
-use Rattle.objects.specs.declared.values.Value.TheVariants as Value
 use Rattle.asdu.specs.Writing.{own_objects, first_address, first_refusal, shape_refusal, size_refusal, write_refusal_by, write_refusal}
 use Rattle.asdu.specs.declared.Asdu.{Asdu}
 use Rattle.objects.specs.declared.kinds.Kind.{Kind}

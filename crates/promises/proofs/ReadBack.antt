@@ -8,7 +8,7 @@ use native.Mathlib.Nat.{zero-mul}
 use lib.ListN.{length, drop, take}
 use lib.Seq.{drop_at, drop-drop}
 use borrow.Author.Tests.{le-ltb}
-use Rattle.laws.specs.Choice.{pick, ◌then◌}
+use Rattle.laws.specs.Choice.{pick}
 use Rattle.laws.specs.Lists.{tabulate}
 use Rattle.laws.specs.Numbers.{le_of, le_octets}
 use Rattle.laws.proofs.Numbers.{reads_back as number_back, length_octets}

@@ -9,7 +9,7 @@ use borrow.Author.Tests.{eq-eqb, le-ltb}
 use lib.ListN.{length, get_or, take, drop, replicate, length-append, length-drop}
 use lib.Seq.{drop-drop, drop-nil}
 use Rattle.laws.specs.Bits.{Layout, whole, kept}
-use Rattle.laws.specs.Choice.{pick, ◌then◌}
+use Rattle.laws.specs.Choice.{pick}
 use Rattle.laws.specs.Lists.{Octets, tabulate, padded}
 use Rattle.laws.specs.Numbers.{le_of}
 use Rattle.laws.proofs.Lists.{octets_drop, length_tabulate}

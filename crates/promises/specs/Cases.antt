@@ -54,14 +54,14 @@ Holding s os = ((read_asdu s).answer ≡ Ok tt) × (own_objects (read_asdu s).as
 
 abbrev pub Reads : List ℕ → Reading → Type 0
 Reads f (frame_refused n) = (frame_answer f ≡ Err (refusal n)) × (plain_frame f ≡ Err (refusal n))
-Reads f (u_frame a b c d e g) = frame_answer f ≡ U (record {
+Reads f (u_frame a b c d e g) = frame_answer f ≡ Ok (U (record {
   start_act = a;
   start_con = b;
   stop_act = c;
   stop_con = d;
   test_act = e;
   test_con = g;
-})
+}))
 Reads f (s_frame r plain) = (frame_answer f ≡ Ok (S (receive_number r))) × (plain_frame f ≡ pick plain (Ok Plain) (Ok Reserved))
 Reads f (i_frame s r os) = (frame_answer f ≡ Ok (I (send_number s) (receive_number r))) × Holding (asdu_part f) os
 Reads s (asdu_refused n) = ((read_asdu s).answer ≡ Err (refusal n)) × (plain_answer s ≡ Err (refusal n))

@@ -16,7 +16,7 @@ use Rattle.link.specs.Events.{Outcome, Event, frame, send, stop, test, tick, cal
 use Rattle.link.specs.Answering.{called_of, link_written}
 use Rattle.link.specs.declared.answers.Called.{Called}
 use Rattle.link_meaning.specs.Meaning.{OctetsIn, waiting_of}
-use Rattle.std.specs.Prelude.{Some, Result, Ok, Err}
+use Rattle.std.specs.Prelude.{Result, Ok, Err}
 use Rattle.elements.specs.Refusals.{answer_number}
 use Rattle.elements.specs.declared.refusals.Refusal.{Refusal}
 use Rattle.apdu.specs.declared.frame.Frame.TheVariants.{I, S, U}

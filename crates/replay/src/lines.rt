@@ -144,8 +144,6 @@ impl<'a> Case<'a> {
 pub fn agrees(line: &[u8]) -> bool {
     let mut given = [0; MAX_GIVEN as usize];
     let mut told = [0; MAX_TOLD as usize];
-    match Case::read(line, &mut given, &mut told) {
-        Some(case) => case.is_written_as(line) && case.is_answered(),
-        None => false,
-    }
+    Case::read(line, &mut given, &mut told).is_some_and(|case| case.is_written_as(line)
+        && case.is_answered())
 }

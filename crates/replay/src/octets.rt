@@ -42,8 +42,5 @@ fn answer(kind: u8, given: &[u8]) -> Option<[u8; 8]> {
 }
 
 pub fn agrees(kind: u8, given: &[u8], told: &[u8]) -> bool {
-    match answer(kind, given) {
-        Some(out) => out.as_slice() == told,
-        None => false,
-    }
+    answer(kind, given).is_some_and(|out| out.as_slice() == told)
 }

@@ -1,3 +1,4 @@
+use Rattle.std.proofs.Common.{rules}
 use Prim.Native.Nat.{ℕ, ◌+◌, ◌-◌, ◌≤◌}
 use mathlib.Core.Path.{◌≡◌, refl, sym, ap, ◌∙◌}
 use native.Mathlib.Omega.{arith}
@@ -5,7 +6,6 @@ use lib.ListN.{length}
 use Rattle.std.specs.Prelude.{Result, Err}
 use Rattle.std.specs.Result.{result_and}
 use Rattle.elements.specs.declared.refusals.Refusal.{Refusal}
-use Rattle.elements.specs.declared.refusals.Refusal.TheVariants as Refusal
 use Rattle.elements.proofs.Refused.{made_some}
 use Rattle.asdu.specs.Writing.{write_refusal, asdu_octets}
 use Rattle.apdu.specs.Writing.{i_octets, i_refusal}
@@ -27,38 +27,21 @@ unfolding i_refusal
 returns-in_err-n c =
     let a = c.args in
     let passed = made_some _ tt _ (sym c.check_numbers.ensures.value ∙ c.in_ok-check_numbers.was) in
-    let both = asdu_refuses a.asdu.now a.out.now c.write_asdu.ensures.value _ c.in_err-n.was c.write_asdu.ensures.out_after (then_goes _ _ passed) in
-    record { value = both.0; out_after = both.1 }
-
-pub overflow_add-n : goal.overflow_add-n
-overflow_add-n c =
-    let l : length c.args.asdu.now.objects ≡ 127 = c.well_formed.1.1.0.1.1.0.1.0.1 in
-    let fits = asdu_fits c.args.asdu.now c.args.out.now c.write_asdu.ensures.value c.in_ok-n.was l in
-    omega (arith, fits.2)
-
-pub overflow_cast-n : goal.overflow_cast-n
-overflow_cast-n c =
-    let l : length c.args.asdu.now.objects ≡ 127 = c.well_formed.1.1.0.1.1.0.1.0.1 in
-    let fits = asdu_fits c.args.asdu.now c.args.out.now c.write_asdu.ensures.value c.in_ok-n.was l in
-    omega (arith, fits.2)
-
-pub overflow_add-result : goal.overflow_add-result
-overflow_add-result c =
-    let l : length c.args.asdu.now.objects ≡ 127 = c.well_formed.1.1.0.1.1.0.1.0.1 in
-    let fits = asdu_fits c.args.asdu.now c.args.out.now c.write_asdu.ensures.value c.in_ok-n.was l in
-    omega (arith, fits.2)
+    let both = asdu_refuses a.asdu.now a.out.now c.write_asdu.ensures.value (i_octets a.send.0 a.receive.0 (asdu_octets a.asdu.now)) c.in_err-n.was c.write_asdu.ensures.out_after (then_goes _ _ passed) in
+    let is : c.from_residual-in_err-n.result ≡ Err c.in_err-n.field-0.0 = search rules in
+    record { value = is ∙ both.0; out_after = both.1 }
 
 pub returns : goal.returns
 unfolding i_refusal
 returns c =
-    let l : length c.args.asdu.now.objects ≡ 127 = c.well_formed.1.1.0.1.1.0.1.0.1 in
-    let fits = asdu_fits c.args.asdu.now c.args.out.now c.write_asdu.ensures.value c.in_ok-n.was l in
-    let passed = made_some _ tt _ (sym c.check_numbers.ensures.value ∙ c.in_ok-check_numbers.was) in
     let a = c.args in
     let w = c.write_asdu in
-    let stored = asdu_stored a.asdu.now a.out.now w.ensures.value c.in_ok-n.was l w.ensures.out_after in
+    let small = c.in_ok-n.ensures.bounds in
+    let fits = asdu_fits a.asdu.now a.out.now w.ensures.value c.in_ok-n.was small.1 in
+    let passed = made_some _ tt _ (sym c.check_numbers.ensures.value ∙ c.in_ok-check_numbers.was) in
+    let stored = asdu_stored a.asdu.now a.out.now w.ensures.value c.in_ok-n.was small.1 w.ensures.out_after in
     let octets = asdu_octets a.asdu.now in
-    let room : 6 + length octets ≤ length a.out.now = omega (arith, fits.1, fits.3, c.if-out-lt-ASDU_START.false) in
+    let room : 6 + length octets ≤ length a.out.now = omega (arith, fits.1, fits.2, c.if-out-lt-ASDU_START.false) in
     let both = accept (i_octets a.send.0 a.receive.0 octets) a.out.now
     (then_goes _ _ passed ∙ fits.0)
     (ap (λ (n : ℕ). 6 + n) fits.1 ∙ sym (i_long a.send.0 a.receive.0 octets))
