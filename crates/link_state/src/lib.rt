@@ -20,6 +20,8 @@ pub struct Settings {
 }
 
 // I frames handed out and not confirmed yet: how many, the ring place of the oldest's send time, the next number.
+// Kept: memory is fixed, so a ring is an array with a first place and a count. The send times stand in the link, apart from
+// the state, since a step is lent the ring while the state changes.
 #[derive(Clone, Copy)]
 pub struct Window {
     pub first: usize,
@@ -27,7 +29,8 @@ pub struct Window {
     pub next: SendNumber,
 }
 
-// ASDUs that wait: how many, the slot of the first, and at each slot the length of its ASDU.
+// ASDUs that wait: how many, the slot of the first, and at each slot the length of its ASDU. Kept as a ring, like the send
+// times; the ASDUs lie in the pool.
 #[derive(Clone, Copy)]
 pub struct Queue {
     pub lengths: [usize; 16],
@@ -51,7 +54,8 @@ pub struct Timers {
     pub tests: u8,
 }
 
-// Whether the link has ended, and the number of the refusal that ended it: 0 for a stop.
+// Whether the link has ended, and the number of the refusal that ended it: 0 for a stop. Kept: a mark and a number, of which
+// a caller's record may hold any two, and a refused call leaves both as they were (`refusing`).
 #[derive(Clone, Copy)]
 pub struct Status {
     pub closed: bool,
