@@ -17,11 +17,9 @@ use Rattle.objects.specs.declared.kinds.Kind.{Kind}
 use Rattle.asdu.specs.Header.{needed}
 use Rattle.asdu.specs.Writing.{write_refusal, asdu_octets, write_answer, written}
 use Rattle.asdu.specs.declared.Asdu.{Asdu}
-use Rattle.asdu.specs.declared.WriteAnswer.{WriteAnswer}
-use Rattle.asdu.specs.declared.WriteAnswer.TheVariants.{Octets, Refused}
+use Rattle.std.specs.Prelude.{Result, Ok, Err}
 use Rattle.laws.proofs.Choices.{passed, both}
-use Rattle.asdu.proofs.Lengths.{writable, asdu_long}
-use Rattle.asdu_write.proofs.Places.{room_enough}
+use Rattle.asdu.proofs.Lengths.{writable}
 use Rattle.apdu.specs.Control.{u_octet}
 use Rattle.apdu.specs.declared.frame.UFrame.{UFrame}
 use Rattle.apdu.specs.Writing.{start_octets, i_octets, s_octets, u_octets, number_refusal, numbers_refusal, room_refusal, answer_for, output_for}
@@ -29,23 +27,18 @@ use Rattle.apdu.specs.Writing.{start_octets, i_octets, s_octets, u_octets, numbe
 -- ---- the answer and the output
 
 pub refuse : {w : Refusal} {q : ℕ} (r : ℕ) (octets out : List ℕ) → q ≡ r → eqb r 0 ≡ false → w ≡ refusal r
-    → (Refused w ≡ answer_for q octets) × (out ≡ output_for q octets out)
+    → (Err w ≡ answer_for q octets) × (out ≡ output_for q octets out)
 unfolding answer_for output_for
 refuse r octets out e some is = (rw (e, some, is), rw (e, some))
 
 pub accept : {q n : ℕ} {out' : List ℕ} (octets out : List ℕ) → q ≡ 0 → n ≡ length octets → n ≤ length out → out' ≡ sets out 0 octets
-    → (Octets n ≡ answer_for q octets) × (out' ≡ output_for q octets out)
+    → (Ok n ≡ answer_for q octets) × (out' ≡ output_for q octets out)
 unfolding answer_for output_for
 accept octets out none e h s = (rw (none, e), rw none (s ∙ sets_all out octets (omega (arith, e, h))))
 
--- ---- refusals in a row
-
-pub then_stops : (r x : ℕ) → eqb r 0 ≡ false → (r then x) ≡ r
-unfolding ◌then◌
-then_stops r x some = rw some
+-- ---- refusals in a row, and the room
 
 pub then_goes : (r x : ℕ) → r ≡ 0 → (r then x) ≡ x
-unfolding ◌then◌
 then_goes r x none = rw none
 
 pub no_room : (n room : ℕ) → room < n → room_refusal n room ≡ output_too_short
@@ -67,11 +60,7 @@ numbers_small s r h = let n = both _ _ h in (number_small s n.0, number_small r 
 
 -- ---- how long an ASDU is
 
--- a record that is not refused has at most 249 octets
-record_small : (a : Asdu) (room : ℕ) → write_refusal a room ≡ 0 → length a.objects ≡ 127 → length (asdu_octets a) ≤ 249
-record_small a room h l = let (k, w) = writable a room h in omega (arith, asdu_long k a room w l, w.short)
-
--- and no record goes into an output without room
+-- no record goes into an output without room
 pub record_refused : (a : Asdu) → eqb (write_refusal a 0) 0 ≡ false
 unfolding needed
 record_refused a = ne_eqb (write_refusal a 0) 0 (λ h. let (k, w) = writable a 0 h in at_least k a.sequence a.count w.enough)
@@ -142,15 +131,15 @@ part_long : (out : List ℕ) → length (part out) ≡ length out - 6
 part_long out = ap length (to_the_end out 6) ∙ length-drop 6 out
 
 -- what an answer tells of the record
-abbrev Outcome : Asdu → ℕ → WriteAnswer → Type 0
-Outcome a room (Octets n) = (write_refusal a room ≡ 0) × (n ≡ length (asdu_octets a))
-Outcome a room (Refused r) = (eqb (write_refusal a room) 0 ≡ false) × (r ≡ refusal (write_refusal a room))
+abbrev Outcome : Asdu → ℕ → Result ℕ Refusal → Type 0
+Outcome a room (Ok n) = (write_refusal a room ≡ 0) × (n ≡ length (asdu_octets a))
+Outcome a room (Err r) = (eqb (write_refusal a room) 0 ≡ false) × (r ≡ refusal (write_refusal a room))
 
 outcome : (a : Asdu) (room : ℕ) → Outcome a room (write_answer a room)
 unfolding write_answer
 outcome a room = by (eqb (write_refusal a room) 0) refl
   where
-    by : (b : Bool) → eqb (write_refusal a room) 0 ≡ b → Outcome a room (pick b (Octets (length (asdu_octets a))) (Refused (refusal (write_refusal a room))))
+    by : (b : Bool) → eqb (write_refusal a room) 0 ≡ b → Outcome a room (pick {A = Result ℕ Refusal} b (Ok (length (asdu_octets a))) (Err (refusal (write_refusal a room))))
     by true e = (eqb-true _ _ e, refl)
     by false e = (e, refl)
 
@@ -162,27 +151,20 @@ written_some : (a : Asdu) (l : List ℕ) → write_refusal a (length l) ≡ 0 �
 unfolding written
 written_some a l e h = rw e (sym (sets_all l (asdu_octets a) h))
 
-module _ (a : Asdu) (out : List ℕ) {w : WriteAnswer} (answered : w ≡ write_answer a (length (part out))) where
-  told : {v : WriteAnswer} → w ≡ v → Outcome a (length (part out)) v
+module _ (a : Asdu) (out : List ℕ) {w : Result ℕ Refusal} (answered : w ≡ write_answer a (length (part out))) where
+  told : {v : Result ℕ Refusal} → w ≡ v → Outcome a (length (part out)) v
   told e = subst (Outcome a (length (part out))) (sym answered ∙ e) (outcome a (length (part out)))
 
-  pub asdu_refuses : {r : Refusal} {s : List ℕ} {q : ℕ} (octets : List ℕ) → w ≡ Refused r → s ≡ written a (part out) → q ≡ write_refusal a (length out - 6)
-      → (w ≡ answer_for q octets) × (take 6 out ++ (s ++ drop (length out - 6) (drop 6 out)) ≡ output_for q octets out)
+  pub asdu_refuses : {r : Refusal} {s : List ℕ} {q : ℕ} (octets : List ℕ) → w ≡ Err r → s ≡ written a (part out) → q ≡ write_refusal a (length out - 6)
+      → (Err r ≡ answer_for q octets) × (take 6 out ++ (s ++ drop (length out - 6) (drop 6 out)) ≡ output_for q octets out)
   asdu_refuses octets e stored same =
       let o = told e in
       let answers = refuse (write_refusal a (length (part out))) octets out (same ∙ ap (write_refusal a) (sym (part_long out))) o.0 o.1 in
-      (e ∙ answers.0, rest_sets out 6 [] (stored ∙ written_none a (part out) o.0) ∙ answers.1)
+      (answers.0, rest_sets out 6 [] (stored ∙ written_none a (part out) o.0) ∙ answers.1)
 
-  pub asdu_fits : {n : ℕ} → w ≡ Octets n → length a.objects ≡ 127
-      → (write_refusal a (length out - 6) ≡ 0) × (n ≡ length (asdu_octets a)) × (n ≤ 249) × (n ≤ length out - 6)
-  asdu_fits e l =
-      let o = told e in
-      let fits = (room_enough a (length (part out)) o.0 l).0 in
-      let small = record_small a (length (part out)) o.0 l in
-      (ap (write_refusal a) (sym (part_long out)) ∙ o.0, o.1, omega (arith, o.1, small), omega (arith, o.1, fits, part_long out))
+  pub asdu_fits : {n : ℕ} → w ≡ Ok n → n ≤ length (part out) → (write_refusal a (length out - 6) ≡ 0) × (n ≡ length (asdu_octets a)) × (n ≤ length out - 6)
+  asdu_fits e h = let o = told e in (ap (write_refusal a) (sym (part_long out)) ∙ o.0, o.1, omega (arith, h, part_long out))
 
-  pub asdu_stored : {n : ℕ} {s : List ℕ} → w ≡ Octets n → length a.objects ≡ 127 → s ≡ written a (part out)
+  pub asdu_stored : {n : ℕ} {s : List ℕ} → w ≡ Ok n → n ≤ length (part out) → s ≡ written a (part out)
       → take 6 out ++ (s ++ drop (length out - 6) (drop 6 out)) ≡ sets out 6 (asdu_octets a)
-  asdu_stored e l stored =
-      let o = told e in
-      rest_sets out 6 (asdu_octets a) (stored ∙ written_some a (part out) o.0 (room_enough a (length (part out)) o.0 l).0)
+  asdu_stored e h stored = let o = told e in rest_sets out 6 (asdu_octets a) (stored ∙ written_some a (part out) o.0 (omega (arith, h, o.1)))

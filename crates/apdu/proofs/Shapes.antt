@@ -1,10 +1,10 @@
 -- What the answer of reading a frame shows of its octets: each kind of frame, or a refusal. Assumes nothing.
 use Prim.Native.Nat.{ℕ, ◌+◌, ◌%◌, ◌≤◌}
-use mathlib.Core.Path.{◌≡◌, refl, subst, ◌∙◌}
+use mathlib.Core.Path.{◌≡◌, refl, ◌∙◌}
 use mathlib.Core.Bool.{Bool, true, false}
 use mathlib.Core.List.{List}
 use native.Mathlib.Omega.{arith}
-use borrow.Author.Tests.{eqb-true, eqb-false, ltb-false, ne_eqb}
+use borrow.Author.Tests.{eqb-true, ltb-false}
 use lib.Dec.{eqb, ltb}
 use lib.ListN.{length, get_or, drop}
 use Rattle.laws.specs.Lists.{Octets}
@@ -12,13 +12,15 @@ use Rattle.laws.specs.Numbers.{le_of}
 use Rattle.laws.proofs.Choices.{passed, held}
 use Rattle.laws.proofs.Lists.{octets_drop}
 use Rattle.laws.proofs.Numbers.{le_fits}
-use Rattle.elements.specs.Refusals.{refusal, bad_u_control, bad_s_control, bad_i_control, i_without_asdu}
+use Rattle.elements.specs.Refusals.{number, refusal, bad_u_control, bad_s_control, bad_i_control, i_without_asdu}
 use Rattle.elements.specs.declared.refusals.Refusal.{Refusal}
+use Rattle.elements.proofs.Refused.{number_some}
 use Rattle.asdu.specs.Reading.{read_refusal}
 use Rattle.apdu.specs.Control.{send_number, receive_number, number_at, u_of}
 use Rattle.apdu.specs.Reading.{outer_refusal, short_answer, long_answer, frame_answer}
-use Rattle.apdu.specs.declared.frame.FrameAnswer.{FrameAnswer}
-use Rattle.apdu.specs.declared.frame.FrameAnswer.TheVariants.{I, S, U, Refused}
+use Rattle.std.specs.Prelude.{Result, Ok, Err}
+use Rattle.apdu.specs.declared.frame.Frame.{Frame}
+use Rattle.apdu.specs.declared.frame.Frame.TheVariants.{I, S, U}
 
 -- ---- what an answer shows of the octets, by the tests that it passed
 
@@ -58,10 +60,10 @@ pub record UTaken (f : List ℕ) : Type 0 where
 
 -- the answer, with what it shows
 pub data Shape (f : List ℕ) : Type 0 where
-  i_shape : ITaken f → frame_answer f ≡ I (send_number (number_at 2 f)) (receive_number (number_at 4 f)) → Shape f
-  s_shape : STaken f → frame_answer f ≡ S (receive_number (number_at 4 f)) → Shape f
-  u_shape : UTaken f → frame_answer f ≡ U (u_of (get_or f 2 0)) → Shape f
-  refused_shape : (r : Refusal) → (r.0 ≡ 0 → ⊥) → frame_answer f ≡ Refused r → Shape f
+  i_shape : ITaken f → frame_answer f ≡ Ok (I (send_number (number_at 2 f)) (receive_number (number_at 4 f))) → Shape f
+  s_shape : STaken f → frame_answer f ≡ Ok (S (receive_number (number_at 4 f))) → Shape f
+  u_shape : UTaken f → frame_answer f ≡ Ok (U (u_of (get_or f 2 0))) → Shape f
+  refused_shape : (r : Refusal) → (number r ≡ 0 → ⊥) → frame_answer f ≡ Err r → Shape f
 
 module _ (f : List ℕ) where
   short : Outer f → get_or f 1 0 ≡ 4 → frame_answer f ≡ short_answer f → Shape f
@@ -71,13 +73,13 @@ module _ (f : List ℕ) where
       u_by : (t v : Bool) → eqb (get_or f 2 0 % 4) 3 ≡ true → eqb (get_or f 3 0) 0 ≡ t → eqb (le_of 2 (drop 4 f)) 0 ≡ v → Shape f
       u_by true true e g h =
           u_shape (record { outside = o; four = l; low = eqb-true _ _ e; second = eqb-true _ _ g; rest = eqb-true _ _ h }) (a ∙ rw (e, g, h))
-      u_by true false e g h = refused_shape (refusal bad_u_control) (λ z. omega arith) (a ∙ rw (e, g, h))
-      u_by false v e g h = refused_shape (refusal bad_u_control) (λ z. omega arith) (a ∙ rw (e, g))
+      u_by true false e g h = refused_shape (refusal bad_u_control) (number_some (refusal bad_u_control)) (a ∙ rw (e, g, h))
+      u_by false v e g h = refused_shape (refusal bad_u_control) (number_some (refusal bad_u_control)) (a ∙ rw (e, g))
 
       s_by : (t v : Bool) → eqb (get_or f 2 0 % 4) 3 ≡ false → eqb (get_or f 2 0 % 4) 1 ≡ t → eqb (le_of 2 (drop 2 f)) 1 ≡ v → Shape f
       s_by true true n e g = s_shape (record { outside = o; four = l; first = eqb-true _ _ g }) (a ∙ rw (n, e, g))
-      s_by true false n e g = refused_shape (refusal bad_s_control) (λ z. omega arith) (a ∙ rw (n, e, g))
-      s_by false v n e g = refused_shape (refusal i_without_asdu) (λ z. omega arith) (a ∙ rw (n, e))
+      s_by true false n e g = refused_shape (refusal bad_s_control) (number_some (refusal bad_s_control)) (a ∙ rw (n, e, g))
+      s_by false v n e g = refused_shape (refusal i_without_asdu) (number_some (refusal i_without_asdu)) (a ∙ rw (n, e))
 
       by : (t : Bool) → eqb (get_or f 2 0 % 4) 3 ≡ t → Shape f
       by true e = u_by (eqb (get_or f 3 0) 0) (eqb (le_of 2 (drop 4 f)) 0) e refl refl
@@ -90,9 +92,9 @@ module _ (f : List ℕ) where
       by : (t v w : Bool) → eqb (get_or f 2 0 % 2) 0 ≡ t → eqb (get_or f 4 0 % 2) 0 ≡ v → eqb (read_refusal (drop 6 f)) 0 ≡ w → Shape f
       by true true true e g h =
           i_shape (record { outside = o; send_bit = eqb-true _ _ e; receive_bit = eqb-true _ _ g; reads = eqb-true _ _ h }) (a ∙ rw (e, g, h))
-      by true true false e g h = refused_shape (refusal (read_refusal (drop 6 f))) (eqb-false _ _ h) (a ∙ rw (e, g, h))
-      by true false w e g h = refused_shape (refusal bad_i_control) (λ z. omega arith) (a ∙ rw (e, g))
-      by false v w e g h = refused_shape (refusal bad_i_control) (λ z. omega arith) (a ∙ rw e)
+      by true true false e g h = refused_shape (refusal (read_refusal (drop 6 f))) (number_some _) (a ∙ rw (e, g, h))
+      by true false w e g h = refused_shape (refusal bad_i_control) (number_some (refusal bad_i_control)) (a ∙ rw (e, g))
+      by false v w e g h = refused_shape (refusal bad_i_control) (number_some (refusal bad_i_control)) (a ∙ rw e)
 
   pub shape : Shape f
   unfolding frame_answer
@@ -101,21 +103,15 @@ module _ (f : List ℕ) where
       by : (t v : Bool) → eqb (outer_refusal f) 0 ≡ t → eqb (get_or f 1 0) 4 ≡ v → Shape f
       by true true e g = short (outer f (eqb-true _ _ e)) (eqb-true _ _ g) (rw (e, g))
       by true false e g = long (outer f (eqb-true _ _ e)) (rw (e, g))
-      by false v e g = refused_shape (refusal (outer_refusal f)) (eqb-false _ _ e) (rw e)
+      by false v e g = refused_shape (refusal (outer_refusal f)) (number_some _) (rw e)
 
--- ---- the receive number, if any, has 15 bits, and a refusal a number
+-- ---- the receive number, if any, has 15 bits
 
-abbrev pub number_in : FrameAnswer → ℕ
-number_in (I s r) = r.0
-number_in (S r) = r.0
-number_in (U u) = 0
-number_in (Refused r) = 0
-
-abbrev Told : FrameAnswer → Type 0
-Told (I s r) = Unit {0}
-Told (S r) = Unit {0}
-Told (U u) = Unit {0}
-Told (Refused r) = eqb r.0 0 ≡ false
+abbrev pub number_in : Result Frame Refusal → ℕ
+number_in (Ok (I s r)) = r.0
+number_in (Ok (S r)) = r.0
+number_in (Ok (U u)) = 0
+number_in (Err r) = 0
 
 module _ (f : List ℕ) where
   pub number_fits : (i : ℕ) → Octets f → number_at i f ≤ 32767
@@ -132,12 +128,3 @@ module _ (f : List ℕ) where
       by (s_shape c e) = rw e low
       by (u_shape c e) = rw e (omega arith)
       by (refused_shape r n e) = rw e (omega arith)
-
-  told : Shape f → Told (frame_answer f)
-  told (i_shape c e) = rw e tt
-  told (s_shape c e) = rw e tt
-  told (u_shape c e) = rw e tt
-  told (refused_shape r n e) = rw e (ne_eqb r.0 0 n)
-
-  pub refused_some : (r : Refusal) → frame_answer f ≡ Refused r → eqb r.0 0 ≡ false
-  refused_some r e = subst Told e (told (shape f))

@@ -1,12 +1,11 @@
 -- What writing a frame answers, and the output after it: only the octets reported written have changed.
-use Rattle.std.specs.Prelude.{ℕ, ◌+◌, ◌*◌, ◌-◌, List, ◌∷◌, ◌++◌, drop, length, ltb, eqb}
+use Rattle.std.specs.Prelude.{ℕ, ◌+◌, ◌*◌, ◌-◌, List, ◌∷◌, ◌++◌, drop, length, ltb, eqb, Result}
 use Rattle.laws.specs.Choice.{pick, ◌then◌}
-use Rattle.elements.specs.Refusals.{refusal, value_out_of_range, output_too_short}
+use Rattle.elements.specs.Refusals.{answer, value_out_of_range, output_too_short}
+use Rattle.elements.specs.declared.refusals.Refusal.{Refusal}
 use Rattle.asdu.specs.Reading.{read_refusal}
 use Rattle.asdu.specs.Writing.{write_refusal}
 use Rattle.asdu.specs.declared.Asdu.{Asdu}
-use Rattle.asdu.specs.declared.WriteAnswer.{WriteAnswer}
-use Rattle.asdu.specs.declared.WriteAnswer.TheVariants.{Octets, Refused}
 use Rattle.laws.specs.Numbers.{le_octets}
 use Rattle.apdu.specs.Control.{u_octet}
 use Rattle.apdu.specs.declared.frame.UFrame.{UFrame}
@@ -50,8 +49,8 @@ unfoldable pub s_refusal : ℕ → ℕ → ℕ
 s_refusal r room = number_refusal r then room_refusal 6 room
 
 -- the answer for such octets and such a refusal, and the output
-unfoldable pub answer_for : ℕ → List ℕ → WriteAnswer
-answer_for refused octets = pick (eqb refused 0) (Octets (length octets)) (Refused (refusal refused))
+unfoldable pub answer_for : ℕ → List ℕ → Result ℕ Refusal
+answer_for refused octets = answer refused (length octets)
 
 unfoldable pub output_for : ℕ → List ℕ → List ℕ → List ℕ
 output_for refused octets out = pick (eqb refused 0) (octets ++ drop (length octets) out) out

@@ -1,10 +1,6 @@
 // What a frame is: the numbers and flags of its control octets.
 ghost use Rattle.std.specs.Prelude.{◌≡◌};
-ghost use Rattle.elements.specs.Refusals.{refusal};
 ghost use Rattle.apdu.specs.Control.{u_of, u_octet};
-ghost use Rattle.apdu.specs.Reading.{frame_number};
-
-use elements::refusals::Refusal;
 
 // The first octet.
 pub const START: u8 = 0x68;
@@ -16,14 +12,14 @@ pub const MAX_LENGTH: u8 = 253;
 pub const ASDU_START: usize = 6;
 
 // Send and receive number, each a type of its own, so that they cannot be mixed.
-#[derive(Clone, Copy)]
+#[derive(Clone, Copy, Debug, PartialEq, Eq)]
 pub struct SendNumber(pub u16);
 
-#[derive(Clone, Copy)]
+#[derive(Clone, Copy, Debug, PartialEq, Eq)]
 pub struct ReceiveNumber(pub u16);
 
 // Start, stop and test of data transfer, each with its activation and its confirmation; reading takes none or several.
-#[derive(Clone, Copy)]
+#[derive(Clone, Copy, Debug, PartialEq, Eq)]
 pub struct UFrame {
     pub start_act: bool,
     pub start_con: bool,
@@ -33,12 +29,11 @@ pub struct UFrame {
     pub test_con: bool,
 }
 
-#[derive(Clone, Copy)]
-pub enum FrameAnswer {
+#[derive(Clone, Copy, Debug, PartialEq, Eq)]
+pub enum Frame {
     I(SendNumber, ReceiveNumber),
     S(ReceiveNumber),
     U(UFrame),
-    Refused(Refusal),
 }
 
 impl UFrame {
@@ -64,18 +59,5 @@ impl UFrame {
             + laws::bit(self.stop_con) * 32
             + laws::bit(self.test_act) * 64
             + laws::bit(self.test_con) * 128
-    }
-}
-
-impl FrameAnswer {
-    pub fn refusal(self) -> Refusal
-        ensures { result ≡ refusal (frame_number self) }
-    {
-        match self {
-            FrameAnswer::I(_, _) => Refusal::NONE,
-            FrameAnswer::S(_) => Refusal::NONE,
-            FrameAnswer::U(_) => Refusal::NONE,
-            FrameAnswer::Refused(r) => r,
-        }
     }
 }

@@ -1,34 +1,34 @@
 // Reading a frame (apdu.rs, `Apdu::from_bytes`), its ASDU as a part of it, and its plain form.
 ghost use Rattle.std.specs.Prelude.{◌≡◌};
-ghost use Rattle.elements.specs.Refusals.{refusal};
+ghost use Rattle.elements.specs.Refusals.{answer};
 ghost use Rattle.apdu.specs.Control.{number_at};
 ghost use Rattle.apdu.specs.Plain.{plain_frame};
 ghost use Rattle.apdu.specs.Reading.{outer_refusal, short_answer, long_answer, frame_answer, asdu_part};
 
 use crate::frame;
-use crate::frame::{FrameAnswer, ReceiveNumber, SendNumber, UFrame};
-use asdu::{PlainAnswer, checking};
+use crate::frame::{Frame, ReceiveNumber, SendNumber, UFrame};
+use asdu::{Form, checking};
 use elements::refusals::Refusal;
 
 // What is refused of a frame before its control octets: 1, 2, 3, 4.
-#[tactic(auto, unfolding(crate::specs::Reading::outer_refusal))]
-fn outer_refusal(f: &[u8]) -> Refusal
-    ensures { result ≡ refusal (outer_refusal f.now) }
+#[tactic(auto, unfolding(crate::specs::Reading::outer_refusal, elements::specs::Refusals::refusal))]
+fn check_outer(f: &[u8]) -> Result<(), Refusal>
+    ensures { result ≡ answer (outer_refusal f.now) tt }
 {
     if f.len() < frame::ASDU_START {
-        return Refusal::FRAME_TOO_SHORT;
+        return Err(Refusal::FrameTooShort);
     }
     if laws::octet_at(f, 0) != frame::START {
-        return Refusal::WRONG_START;
+        return Err(Refusal::WrongStart);
     }
     let length = laws::octet_at(f, 1);
     if frame::MAX_LENGTH < length {
-        return Refusal::FRAME_TOO_LONG;
+        return Err(Refusal::FrameTooLong);
     }
     if f.len() != 2 + (length as usize) {
-        return Refusal::LENGTH_MISMATCH;
+        return Err(Refusal::LengthMismatch);
     }
-    Refusal::NONE
+    Ok(())
 }
 
 fn number_at(f: &[u8], at: usize) -> u16
@@ -38,55 +38,51 @@ fn number_at(f: &[u8], at: usize) -> u16
 }
 
 // The control octets of a frame without an ASDU: 5, 6, 7.
-#[tactic(auto, unfolding(crate::specs::Reading::short_answer))]
-fn read_short(f: &[u8]) -> FrameAnswer
+#[tactic(auto, unfolding(crate::specs::Reading::short_answer, elements::specs::Refusals::refusal))]
+fn read_short(f: &[u8]) -> Result<Frame, Refusal>
     ensures { result ≡ short_answer f.now }
 {
     let first = laws::octet_at(f, 2);
     if first % 4 == 3 {
         if laws::octet_at(f, 3) != 0 {
-            return FrameAnswer::Refused(Refusal::BAD_U_CONTROL);
+            return Err(Refusal::BadUControl);
         }
         if laws::le::<2>(f, 4) != 0 {
-            return FrameAnswer::Refused(Refusal::BAD_U_CONTROL);
+            return Err(Refusal::BadUControl);
         }
-        return FrameAnswer::U(UFrame::from_byte(first));
+        return Ok(Frame::U(UFrame::from_byte(first)));
     }
     if first % 4 != 1 {
-        return FrameAnswer::Refused(Refusal::I_WITHOUT_ASDU);
+        return Err(Refusal::IWithoutAsdu);
     }
     if laws::le::<2>(f, 2) != 1 {
-        return FrameAnswer::Refused(Refusal::BAD_S_CONTROL);
+        return Err(Refusal::BadSControl);
     }
-    FrameAnswer::S(ReceiveNumber(number_at(f, 4)))
+    Ok(Frame::S(ReceiveNumber(number_at(f, 4))))
 }
 
 // The control octets of an I frame: 8, then what its ASDU refuses.
-#[tactic(auto, unfolding(crate::specs::Reading::long_answer))]
-fn read_long(f: &[u8]) -> FrameAnswer
+#[tactic(auto, unfolding(crate::specs::Reading::long_answer, elements::specs::Refusals::refusal))]
+fn read_long(f: &[u8]) -> Result<Frame, Refusal>
     ensures { result ≡ long_answer f.now }
 {
     if laws::octet_at(f, 2) % 2 != 0 {
-        return FrameAnswer::Refused(Refusal::BAD_I_CONTROL);
+        return Err(Refusal::BadIControl);
     }
     if laws::octet_at(f, 4) % 2 != 0 {
-        return FrameAnswer::Refused(Refusal::BAD_I_CONTROL);
+        return Err(Refusal::BadIControl);
     }
-    let refused = checking::check_asdu(laws::part_from(f, frame::ASDU_START));
-    if !refused.is_none() {
-        return FrameAnswer::Refused(refused);
-    }
-    FrameAnswer::I(SendNumber(number_at(f, 2)), ReceiveNumber(number_at(f, 4)))
+    checking::check_asdu(laws::part_from(f, frame::ASDU_START))?;
+    let send = SendNumber(number_at(f, 2));
+    let receive = ReceiveNumber(number_at(f, 4));
+    Ok(Frame::I(send, receive))
 }
 
 #[tactic(auto, unfolding(crate::specs::Reading::frame_answer))]
-pub fn read_frame(f: &[u8]) -> FrameAnswer
+pub fn read_frame(f: &[u8]) -> Result<Frame, Refusal>
     ensures { result ≡ frame_answer f.now }
 {
-    let outer = outer_refusal(f);
-    if !outer.is_none() {
-        return FrameAnswer::Refused(outer);
-    }
+    check_outer(f)?;
     if laws::octet_at(f, 1) == 4 {
         return read_short(f);
     }
@@ -98,8 +94,7 @@ pub fn read_frame(f: &[u8]) -> FrameAnswer
 pub fn asdu_of(f: &[u8]) -> &[u8]
     ensures { result.now ≡ asdu_part f.now }
 {
-    let answer = read_frame(f);
-    let FrameAnswer::I(_, _) = answer else {
+    let Ok(Frame::I(_, _)) = read_frame(f) else {
         return laws::part_from(f, f.len());
     };
     laws::part_from(f, frame::ASDU_START)
@@ -107,19 +102,17 @@ pub fn asdu_of(f: &[u8]) -> &[u8]
 
 // Whether writing a frame's reading gives the same octets.
 #[tactic(auto, unfolding(crate::specs::Plain::plain_frame))]
-pub fn plain_frame(f: &[u8]) -> PlainAnswer
+pub fn plain_frame(f: &[u8]) -> Result<Form, Refusal>
     ensures { result ≡ plain_frame f.now }
 {
-    let answer = read_frame(f);
-    match answer {
-        FrameAnswer::I(_, _) => asdu_plain::plain_asdu(laws::part_from(f, frame::ASDU_START)),
-        FrameAnswer::S(_) => {
+    match read_frame(f)? {
+        Frame::I(_, _) => asdu_plain::plain_asdu(laws::part_from(f, frame::ASDU_START)),
+        Frame::S(_) => {
             if laws::octet_at(f, 4) % 2 == 0 {
-                return PlainAnswer::Plain;
+                return Ok(Form::Plain);
             }
-            PlainAnswer::Reserved
+            Ok(Form::Reserved)
         }
-        FrameAnswer::U(_) => PlainAnswer::Plain,
-        FrameAnswer::Refused(r) => PlainAnswer::Refused(r),
+        Frame::U(_) => Ok(Form::Plain),
     }
 }

@@ -18,8 +18,7 @@ use Rattle.elements.specs.Refusals.{empty_sequence}
 use Rattle.objects.specs.Kinds.{kind_of, size_of, value_kind}
 use Rattle.objects.specs.Objects.{object_refusal}
 use Rattle.objects.specs.declared.kinds.Kind.{Kind}
-use Rattle.objects.specs.declared.kinds.KindAnswer.{KindAnswer}
-use Rattle.objects.specs.declared.kinds.KindAnswer.TheVariants.{Carried, NotCarried}
+use Rattle.std.specs.Prelude.{Option, Some, None}
 use Rattle.objects.specs.declared.Object.{Object}
 use Rattle.objects.proofs.Elements.{element_level}
 use Rattle.objects.proofs.Objects.{object_long, Fit, fit}
@@ -110,7 +109,7 @@ needed_next k q i = omega (arith, needed_parts k q i, needed_parts k q (suc i), 
 
 pub record Writable (k : Kind) (a : Asdu) (room : ℕ) : Type 0 where
   pub listed : cause_listed a.cause ≡ true
-  pub kind : kind_of a.type_id ≡ Carried k
+  pub kind : kind_of a.type_id ≡ Some k
   pub counted : a.count ≤ 127
   pub some : a.sequence ≡ true → (1 ≤ a.count) × (1 ≤ size_of k)
   pub each : first_refusal k a.sequence (first_address a) 0 (own_objects a) ≡ 0
@@ -127,11 +126,11 @@ room_fits n room h =
     let x = passed (ltb 249 n) 16 _ h in
     (ltb-false 249 n x.0, ltb-false room n (passed (ltb room n) 17 _ x.1).0)
 
-by_kind : (f : KindAnswer) (a : Asdu) (room : ℕ) → cause_listed a.cause ≡ true → kind_of a.type_id ≡ f → write_refusal_by f a room ≡ 0
+by_kind : (f : Option Kind) (a : Asdu) (room : ℕ) → cause_listed a.cause ≡ true → kind_of a.type_id ≡ f → write_refusal_by f a room ≡ 0
     → (k : Kind) × Writable k a room
 unfolding write_refusal_by
-by_kind NotCarried a room c f h = absurd (omega arith)
-by_kind (Carried k) a room c f h =
+by_kind None a room c f h = absurd (omega arith)
+by_kind (Some k) a room c f h =
     let x = both _ _ h in
     let y = both _ _ x.1 in
     let (n, some) = shape_fits k a.sequence a.count x.0 in

@@ -1,4 +1,5 @@
 pub mod Starts
+pub mod Placed
 pub mod Walk
 pub mod Checked
 pub mod Passed

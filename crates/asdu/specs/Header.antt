@@ -1,17 +1,16 @@
 -- IEC 60870-5-101, the data unit identifier, with the sizes that 60870-5-104 fixes: type; sequence bit 7 and count n in
 -- bits 0 to 6; test bit 7, negative bit 6 and cause in bits 0 to 5; originator; common address of two octets. Then, plain:
 -- n times an address of three octets and an element. Sequence: one address and n elements, whose addresses rise by 1.
-use Rattle.std.specs.Prelude.{ℕ, ◌+◌, ◌*◌, Bool, true, false, ◌&&◌, ◌||◌, not, List, [], ◌∷◌, get_or, drop, length, ltb, leb, eqb}
+use Rattle.std.specs.Prelude.{ℕ, ◌+◌, ◌*◌, Bool, true, false, ◌&&◌, ◌||◌, not, List, [], ◌∷◌, get_or, drop, length, ltb, leb, eqb, Option, Some, None, Result, Ok, Err}
 use Rattle.laws.specs.Bits.{Layout, ◌at◌, field, flag}
 use Rattle.laws.specs.Choice.{pick, ◌then◌}
 use Rattle.laws.specs.Numbers.{le_of}
 use Rattle.elements.specs.Refusals.{refusal, asdu_too_short, cause_not_listed, type_not_carried, layout_mismatch, empty_sequence, asdu_too_long}
+use Rattle.elements.specs.declared.refusals.Refusal.{Refusal}
+use Rattle.elements.specs.declared.refusals.Refusal.TheVariants.{TypeNotCarried}
 use Rattle.objects.specs.Kinds.{kind_of, size_of}
 use Rattle.objects.specs.declared.kinds.Kind.{Kind}
-use Rattle.objects.specs.declared.kinds.KindAnswer.{KindAnswer}
-use Rattle.objects.specs.declared.kinds.KindAnswer.TheVariants.{Carried, NotCarried}
 use Rattle.asdu.specs.declared.header.Header.{Header}
-use Rattle.asdu.specs.declared.header.HeaderAnswer.{HeaderAnswer}
 
 -- the octet of sequence and count, and that of test, negative and cause; neither has a reserved bit
 abbrev pub count_layout : Layout
@@ -75,24 +74,19 @@ early_refusal s =
     (pick (ltb (length s) 6) asdu_too_short 0)))
 
 -- then 11 by the kind of the type, and 12 and 13 by its layout
-abbrev pub header_refusal_by : KindAnswer → List ℕ → ℕ
-header_refusal_by NotCarried s = type_not_carried
-header_refusal_by (Carried k) s = layout_refusal k (sequence_in s) (count_in s) (length s)
+abbrev pub header_refusal_by : Option Kind → List ℕ → ℕ
+header_refusal_by None s = type_not_carried
+header_refusal_by (Some k) s = layout_refusal k (sequence_in s) (count_in s) (length s)
 
 -- the header's refusal, 0 where there is none
 unfoldable pub header_refusal : List ℕ → ℕ
 header_refusal s = early_refusal s then header_refusal_by (kind_of (get_or s 0 0)) s
 
 -- the header, by the kind of the type
-abbrev pub header_by : KindAnswer → List ℕ → HeaderAnswer
-header_by NotCarried s = HeaderAnswer.Refused (refusal type_not_carried)
-header_by (Carried k) s = HeaderAnswer.Header (header_in k s)
+abbrev pub header_by : Option Kind → List ℕ → Result Header Refusal
+header_by None s = Err TypeNotCarried
+header_by (Some k) s = Ok (header_in k s)
 
-unfoldable pub header_answer : List ℕ → HeaderAnswer
+unfoldable pub header_answer : List ℕ → Result Header Refusal
 header_answer s =
-    pick (eqb (header_refusal s) 0) (header_by (kind_of (get_or s 0 0)) s) (HeaderAnswer.Refused (refusal (header_refusal s)))
-
--- an answer's number, 0 for a header
-abbrev pub header_number : HeaderAnswer → ℕ
-header_number (HeaderAnswer.Header h) = 0
-header_number (HeaderAnswer.Refused r) = r.0
+    pick (eqb (header_refusal s) 0) (header_by (kind_of (get_or s 0 0)) s) (Err (refusal (header_refusal s)))

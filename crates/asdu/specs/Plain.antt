@@ -1,16 +1,16 @@
 -- Plain form: no octet has a reserved bit set. `promises` shows that this is "writing its reading gives the same octets".
-use Rattle.std.specs.Prelude.{ℕ, ◌+◌, ◌*◌, Bool, true, false, ◌&&◌, ◌||◌, not, List, [], ◌∷◌, get_or, drop, eqb}
+use Rattle.std.specs.Prelude.{ℕ, ◌+◌, ◌*◌, Bool, true, false, ◌&&◌, ◌||◌, not, List, [], ◌∷◌, get_or, drop, eqb, Result, Ok, Err}
 use Rattle.laws.specs.Bits.{Layout, kept, reserved}
 use Rattle.laws.specs.Choice.{pick}
 use Rattle.laws.specs.Lists.{every}
-use Rattle.elements.specs.Refusals.{refusal}
+use Rattle.elements.specs.declared.refusals.Refusal.{Refusal}
 use Rattle.objects.specs.Kinds.{form_of}
 use Rattle.objects.specs.declared.kinds.Kind.{Kind}
-use Rattle.asdu.specs.Header.{step_of, header_answer}
-use Rattle.asdu.specs.Reading.{read_refusal}
+use Rattle.asdu.specs.Header.{step_of}
+use Rattle.asdu.specs.Reading.{checked_header}
 use Rattle.asdu.specs.declared.header.Header.{Header}
-use Rattle.asdu.specs.declared.header.HeaderAnswer.{HeaderAnswer}
-use Rattle.asdu.specs.declared.PlainAnswer.{PlainAnswer}
+use Rattle.asdu.specs.declared.Form.{Form}
+use Rattle.asdu.specs.declared.Form.TheVariants.{Plain, Reserved}
 
 -- no reserved bit in the octets of this form that begin a list
 abbrev pub plain_form : List Layout → List ℕ → Bool
@@ -33,19 +33,10 @@ plain_element h s i = plain_form (form_of h.kind) (drop (9 + i * step_of h.kind 
 unfoldable pub plain_objects : Header → List ℕ → Bool
 plain_objects h s = every (plain_element h s) h.count
 
-abbrev pub plain_by : HeaderAnswer → List ℕ → Bool
-plain_by (HeaderAnswer.Refused r) s = false
-plain_by (HeaderAnswer.Header h) s = plain_objects h s
-
 -- plain, or with reserved bits set, or the reading's refusal
-unfoldable pub plain_answer : List ℕ → PlainAnswer
-plain_answer s =
-    pick (eqb (read_refusal s) 0)
-    (pick (plain_by (header_answer s) s) PlainAnswer.Plain PlainAnswer.Reserved)
-    (PlainAnswer.Refused (refusal (read_refusal s)))
+abbrev pub plain_by : Result Header Refusal → List ℕ → Result Form Refusal
+plain_by (Ok h) s = Ok (pick (plain_objects h s) Plain Reserved)
+plain_by (Err r) s = Err r
 
--- an answer's number: 0 for plain and for reserved bits set
-abbrev pub plain_number : PlainAnswer → ℕ
-plain_number PlainAnswer.Plain = 0
-plain_number PlainAnswer.Reserved = 0
-plain_number (PlainAnswer.Refused r) = r.0
+unfoldable pub plain_answer : List ℕ → Result Form Refusal
+plain_answer s = plain_by (checked_header s) s

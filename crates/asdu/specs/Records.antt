@@ -1,14 +1,11 @@
 -- The record of an ASDU: the header's fields, the count, and 127 objects of which the first count are its own.
-use Rattle.std.specs.Prelude.{ℕ, false, List, []}
+use Rattle.std.specs.Prelude.{false, List, []}
 use Rattle.laws.specs.Lists.{padded}
-use Rattle.elements.specs.Refusals.{refusal}
 use Rattle.objects.specs.Kinds.{type_of}
 use Rattle.objects.specs.Objects.{blank}
 use Rattle.objects.specs.declared.Object.{Object}
 use Rattle.asdu.specs.declared.header.Header.{Header}
 use Rattle.asdu.specs.declared.Asdu.{Asdu}
-use Rattle.asdu.specs.declared.Answer.{Answer}
-use Rattle.asdu.specs.declared.ReadAsdu.{ReadAsdu}
 
 -- 127 objects: the given ones, the rest blank
 abbrev pub filled : List Object → List Object
@@ -45,12 +42,3 @@ no_asdu = record {
   originator = 0;
   address = 0;
 }
-
--- a reading that is refused with this number
-abbrev pub refused_with : ℕ → ReadAsdu
-refused_with n = record { asdu = no_asdu; answer = Answer.Refused (refusal n) }
-
--- an answer's number, 0 for acceptance
-abbrev pub answer_number : Answer → ℕ
-answer_number Answer.Accepted = 0
-answer_number (Answer.Refused r) = r.0

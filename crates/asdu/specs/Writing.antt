@@ -1,20 +1,19 @@
 -- Writing an ASDU (IEC 60870-5-101): what is refused and in which order, its octets, and the output afterwards.
 -- "Writing: .. 10, 11, 12, 13, then per object by index 16, 14, 15, then 17, 18" (document 01)
-use Rattle.std.specs.Prelude.{ℕ, suc, Bool, true, false, ◌||◌, ◌&&◌, List, [], ◌∷◌, ◌++◌, get_or, take, drop, length, ltb, eqb}
+use Rattle.std.specs.Prelude.{ℕ, suc, Bool, true, false, ◌||◌, ◌&&◌, List, [], ◌∷◌, ◌++◌, get_or, take, drop, length, ltb, eqb, Option, Some, None, Result}
+use Rattle.std.specs.Result.{result_unwrap_or}
 use Rattle.laws.specs.Bits.{num, octet}
 use Rattle.laws.specs.Choice.{pick, ◌then◌}
 use Rattle.laws.specs.Numbers.{le_octets}
-use Rattle.elements.specs.Refusals.{refusal, cause_not_listed, type_not_carried, layout_mismatch, empty_sequence, asdu_too_long, output_too_short}
+use Rattle.elements.specs.Refusals.{answer, cause_not_listed, type_not_carried, layout_mismatch, empty_sequence, asdu_too_long, output_too_short}
+use Rattle.elements.specs.declared.refusals.Refusal.{Refusal}
 use Rattle.objects.specs.Kinds.{kind_of, size_of}
 use Rattle.objects.specs.Elements.{element_octets}
 use Rattle.objects.specs.Objects.{blank, object_octets, object_refusal}
 use Rattle.objects.specs.declared.kinds.Kind.{Kind}
-use Rattle.objects.specs.declared.kinds.KindAnswer.{KindAnswer}
-use Rattle.objects.specs.declared.kinds.KindAnswer.TheVariants.{Carried, NotCarried}
 use Rattle.objects.specs.declared.Object.{Object}
 use Rattle.asdu.specs.Header.{count_layout, cause_layout, cause_listed, needed}
 use Rattle.asdu.specs.declared.Asdu.{Asdu}
-use Rattle.asdu.specs.declared.WriteAnswer.{WriteAnswer}
 
 -- the record's own objects, and the first one's address
 abbrev pub own_objects : Asdu → List Object
@@ -36,9 +35,9 @@ shape_refusal k q n = pick (ltb 127 n) layout_mismatch (pick (q && (eqb n 0 || e
 unfoldable pub size_refusal : ℕ → ℕ → ℕ
 size_refusal n room = pick (ltb 249 n) asdu_too_long (pick (ltb room n) output_too_short 0)
 
-unfoldable pub write_refusal_by : KindAnswer → Asdu → ℕ → ℕ
-write_refusal_by NotCarried a room = type_not_carried
-write_refusal_by (Carried k) a room =
+unfoldable pub write_refusal_by : Option Kind → Asdu → ℕ → ℕ
+write_refusal_by None a room = type_not_carried
+write_refusal_by (Some k) a room =
     shape_refusal k a.sequence a.count
     then first_refusal k a.sequence (first_address a) 0 (own_objects a)
     then size_refusal (needed k a.sequence a.count) room
@@ -75,18 +74,12 @@ unfoldable pub asdu_octets : Asdu → List ℕ
 asdu_octets a = header_octets a ++ (address_octets a.sequence (first_address a) ++ objects_octets a.sequence (own_objects a))
 
 -- the answer, and the output after it: only the octets reported written have changed
-unfoldable pub write_answer : Asdu → ℕ → WriteAnswer
-write_answer a room =
-    pick (eqb (write_refusal a room) 0) (WriteAnswer.Octets (length (asdu_octets a))) (WriteAnswer.Refused (refusal (write_refusal a room)))
+unfoldable pub write_answer : Asdu → ℕ → Result ℕ Refusal
+write_answer a room = answer (write_refusal a room) (length (asdu_octets a))
 
 unfoldable pub written : Asdu → List ℕ → List ℕ
 written a l = pick (eqb (write_refusal a (length l)) 0) (asdu_octets a ++ drop (length (asdu_octets a)) l) l
 
--- an answer's number, 0 for octets, and how many octets, 0 where it was refused
-abbrev pub write_number : WriteAnswer → ℕ
-write_number (WriteAnswer.Octets n) = 0
-write_number (WriteAnswer.Refused r) = r.0
-
-abbrev pub written_count : WriteAnswer → ℕ
-written_count (WriteAnswer.Octets n) = n
-written_count (WriteAnswer.Refused r) = 0
+-- how many octets an answer says, 0 where it was refused
+abbrev pub written_count : Result ℕ Refusal → ℕ
+written_count a = result_unwrap_or a 0

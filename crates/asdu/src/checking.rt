@@ -1,7 +1,7 @@
 // Checking an ASDU: what reading refuses, with no record built.
-ghost use Rattle.std.specs.Prelude.{◌≡◌};
-ghost use Rattle.elements.specs.Refusals.{refusal};
-ghost use Rattle.asdu.specs.Reading.{objects_refusal, addresses_refusal, read_refusal};
+ghost use Rattle.std.specs.Prelude.{◌≡◌, ◌≤◌, IfOk};
+ghost use Rattle.elements.specs.Refusals.{answer};
+ghost use Rattle.asdu.specs.Reading.{objects_refusal, addresses_refusal, read_refusal, checked_header};
 
 use crate::header;
 use crate::header::Header;
@@ -9,37 +9,46 @@ use elements::refusals::Refusal;
 
 // What is refused of the objects, in time that does not grow with their count:
 // the addresses of a sequence rise, so its last one tells whether all fit.
-#[tactic(auto, unfolding(crate::specs::Reading::addresses_refusal))]
-fn addresses_refusal(s: &[u8], sequence: bool, count: usize) -> Refusal
-    ensures { result ≡ refusal (addresses_refusal sequence count s.now) }
+#[tactic(auto, unfolding(crate::specs::Reading::addresses_refusal, elements::specs::Refusals::refusal))]
+fn check_addresses(s: &[u8], sequence: bool, count: usize) -> Result<(), Refusal>
+    ensures { result ≡ answer (addresses_refusal sequence count s.now) tt }
 {
     if !sequence {
-        return Refusal::NONE;
+        return Ok(());
     }
     // More than any count that is read, so that the sum below fits 32 bits.
     if 16777216 < count {
-        return Refusal::WRONG_ADDRESS;
+        return Err(Refusal::WrongAddress);
     }
     if laws::le::<3>(s, 6) + (count as u32) <= 16777216 {
-        return Refusal::NONE;
+        return Ok(());
     }
-    Refusal::WRONG_ADDRESS
+    Err(Refusal::WrongAddress)
 }
 
-pub fn objects_refusal(s: &[u8], h: Header) -> Refusal
-    ensures { result ≡ refusal (objects_refusal h s.now) }
+pub fn check_objects(s: &[u8], h: Header) -> Result<(), Refusal>
+    ensures { result ≡ answer (objects_refusal h s.now) tt }
 {
-    addresses_refusal(s, h.sequence, h.count)
+    check_addresses(s, h.sequence, h.count)
 }
 
 // What reading refuses, with no record built.
-pub fn check_asdu(s: &[u8]) -> Refusal
-    ensures { result ≡ refusal (read_refusal s.now) }
+#[tactic(auto, unfolding(crate::specs::Reading::read_refusal))]
+pub fn check_asdu(s: &[u8]) -> Result<(), Refusal>
+    ensures { result ≡ answer (read_refusal s.now) tt }
 {
-    let refused = header::header_refusal(s);
-    if !refused.is_none() {
-        return refused;
-    }
+    header::check_header(s)?;
     let size = laws::octet_at(s, 1);
-    addresses_refusal(s, size / 128 % 2 == 1, (size % 128) as usize)
+    check_addresses(s, size / 128 % 2 == 1, (size % 128) as usize)
+}
+
+// The header, where nothing is refused of it and of the objects.
+#[tactic(auto, unfolding(crate::specs::Header::header_answer, crate::specs::Reading::read_refusal, crate::specs::Reading::checked_header))]
+pub fn checked_header(s: &[u8]) -> Result<Header, Refusal>
+    ensures value { result ≡ checked_header s.now }
+    ensures count_bound { IfOk result (λ h. h.count ≤ 127) }
+{
+    let h = header::read_header(s)?;
+    check_objects(s, h)?;
+    Ok(h)
 }

@@ -1,11 +1,11 @@
 // The header of an ASDU: type, sequence mark and count, test and negative marks with the cause, originator, common address.
-ghost use Rattle.std.specs.Prelude.{◌≡◌, ◌≤◌};
-ghost use Rattle.elements.specs.Refusals.{refusal};
-ghost use Rattle.asdu.specs.Header.{cause_listed, step_of, needed, layout_refusal, early_refusal, header_refusal, header_in, header_answer, header_number};
+ghost use Rattle.std.specs.Prelude.{◌≡◌, ◌≤◌, IfOk};
+ghost use Rattle.elements.specs.Refusals.{answer};
+ghost use Rattle.asdu.specs.Header.{cause_listed, step_of, needed, layout_refusal, early_refusal, header_refusal, header_in, header_answer};
 
 use elements::refusals::Refusal;
 use objects::kinds;
-use objects::kinds::{Kind, KindAnswer};
+use objects::kinds::Kind;
 
 // Octets of the header.
 pub const HEADER_SIZE: usize = 6;
@@ -19,7 +19,7 @@ pub const MAX_SIZE: usize = 249;
 // The count has seven bits.
 pub const MAX_OBJECTS: usize = 127;
 
-#[derive(Clone, Copy)]
+#[derive(Clone, Copy, Debug, PartialEq, Eq)]
 pub struct Header {
     pub kind: Kind,
     pub count: usize,
@@ -31,43 +31,11 @@ pub struct Header {
     pub address: u16,
 }
 
-#[derive(Clone, Copy)]
-pub enum HeaderAnswer {
-    Header(Header),
-    Refused(Refusal),
-}
-
-impl HeaderAnswer {
-    pub fn refusal(self) -> Refusal
-        ensures { result ≡ refusal (header_number self) }
-    {
-        match self {
-            HeaderAnswer::Header(_) => Refusal::NONE,
-            HeaderAnswer::Refused(r) => r,
-        }
-    }
-}
-
 #[tactic(auto, unfolding(crate::specs::Header::cause_listed))]
 pub fn cause_listed(cause: u8) -> bool
     ensures { result ≡ cause_listed cause }
 {
-    if cause < 1 {
-        return false;
-    }
-    if cause <= 13 {
-        return true;
-    }
-    if cause < 20 {
-        return false;
-    }
-    if cause <= 41 {
-        return true;
-    }
-    if cause < 44 {
-        return false;
-    }
-    cause <= 47
+    matches!(cause, 1..=13 | 20..=41 | 44..=47)
 }
 
 // From one element to the next: in the plain layout an address stands before each.
@@ -95,28 +63,23 @@ pub fn needed_len(kind: Kind, sequence: bool, n: u8) -> usize
     6 + body
 }
 
-#[tactic(auto, unfolding(crate::specs::Header::layout_refusal))]
-fn layout_refusal(kind: Kind, sequence: bool, n: u8, len: usize) -> Refusal
-    ensures { result ≡ refusal (layout_refusal kind sequence n len) }
+#[tactic(auto, unfolding(crate::specs::Header::layout_refusal, elements::specs::Refusals::refusal))]
+fn check_layout(kind: Kind, sequence: bool, n: u8, len: usize) -> Result<(), Refusal>
+    ensures { result ≡ answer (layout_refusal kind sequence n len) tt }
 {
     if len != needed_len(kind, sequence, n) {
-        return Refusal::LAYOUT_MISMATCH;
+        return Err(Refusal::LayoutMismatch);
     }
-    if !sequence {
-        return Refusal::NONE;
+    if sequence && (n == 0 || kinds::size_of(kind) == 0) {
+        return Err(Refusal::EmptySequence);
     }
-    if n == 0 {
-        return Refusal::EMPTY_SEQUENCE;
-    }
-    if kinds::size_of(kind) == 0 {
-        return Refusal::EMPTY_SEQUENCE;
-    }
-    Refusal::NONE
+    Ok(())
 }
 
 #[tactic(auto, unfolding(crate::specs::Header::header_in))]
 fn header_of(s: &[u8], kind: Kind) -> Header
-    ensures { result ≡ header_in kind s.now }
+    ensures value { result ≡ header_in kind s.now }
+    ensures count_bound { result.count ≤ 127 }
 {
     let size = laws::octet_at(s, 1);
     let why = laws::octet_at(s, 2);
@@ -133,52 +96,43 @@ fn header_of(s: &[u8], kind: Kind) -> Header
 }
 
 // What is refused before the type is known: 17, 9, 10, 9.
-#[tactic(auto, unfolding(crate::specs::Header::early_refusal))]
-fn early_refusal(s: &[u8]) -> Refusal
-    ensures { result ≡ refusal (early_refusal s.now) }
+#[tactic(auto, unfolding(crate::specs::Header::early_refusal, elements::specs::Refusals::refusal))]
+fn check_start(s: &[u8]) -> Result<(), Refusal>
+    ensures { result ≡ answer (early_refusal s.now) tt }
 {
     if MAX_SIZE < s.len() {
-        return Refusal::ASDU_TOO_LONG;
+        return Err(Refusal::AsduTooLong);
     }
     if s.len() < 3 {
-        return Refusal::ASDU_TOO_SHORT;
+        return Err(Refusal::AsduTooShort);
     }
     if !cause_listed(laws::octet_at(s, 2) % 64) {
-        return Refusal::CAUSE_NOT_LISTED;
+        return Err(Refusal::CauseNotListed);
     }
     if s.len() < HEADER_SIZE {
-        return Refusal::ASDU_TOO_SHORT;
+        return Err(Refusal::AsduTooShort);
     }
-    Refusal::NONE
+    Ok(())
 }
 
 // What is refused of the header, with none made.
-pub fn header_refusal(s: &[u8]) -> Refusal
-    ensures { result ≡ refusal (header_refusal s.now) }
+#[tactic(auto, unfolding(crate::specs::Header::header_refusal, elements::specs::Refusals::refusal))]
+pub fn check_header(s: &[u8]) -> Result<(), Refusal>
+    ensures { result ≡ answer (header_refusal s.now) tt }
 {
-    let start = early_refusal(s);
-    if !start.is_none() {
-        return start;
-    }
-    let found = kinds::kind_of(laws::octet_at(s, 0));
-    let KindAnswer::Carried(kind) = found else {
-        return Refusal::TYPE_NOT_CARRIED;
-    };
+    check_start(s)?;
+    let kind = Kind::try_from(laws::octet_at(s, 0))?;
     let size = laws::octet_at(s, 1);
-    layout_refusal(kind, size / 128 % 2 == 1, size % 128, s.len())
+    check_layout(kind, size / 128 % 2 == 1, size % 128, s.len())
 }
 
 // The refusal first and the fields after it: so a caller that asks for no field pays for none (decision 39).
-pub fn read_header(s: &[u8]) -> HeaderAnswer
-    ensures { result ≡ header_answer s.now }
+#[tactic(auto, unfolding(crate::specs::Header::header_answer))]
+pub fn read_header(s: &[u8]) -> Result<Header, Refusal>
+    ensures value { result ≡ header_answer s.now }
+    ensures count_bound { IfOk result (λ h. h.count ≤ 127) }
 {
-    let refused = header_refusal(s);
-    if !refused.is_none() {
-        return HeaderAnswer::Refused(refused);
-    }
-    let found = kinds::kind_of(laws::octet_at(s, 0));
-    let KindAnswer::Carried(kind) = found else {
-        return HeaderAnswer::Refused(Refusal::TYPE_NOT_CARRIED);
-    };
-    HeaderAnswer::Header(header_of(s, kind))
+    check_header(s)?;
+    let kind = Kind::try_from(laws::octet_at(s, 0))?;
+    Ok(header_of(s, kind))
 }

@@ -4,12 +4,13 @@
 
 pub mod checking;
 pub mod header;
+pub mod objects_at;
 
 use elements::refusals::Refusal;
 use objects::Object;
 
 // The record of an ASDU. What stands in `objects` past `count` is blank when read and ignored when written.
-#[derive(Clone, Copy)]
+#[derive(Clone, Copy, Debug, PartialEq, Eq)]
 pub struct Asdu {
     pub objects: [Object; 127],
     pub count: usize,
@@ -22,30 +23,16 @@ pub struct Asdu {
     pub address: u16,
 }
 
-#[derive(Clone, Copy)]
-pub enum Answer {
-    Accepted,
-    Refused(Refusal),
-}
-
 // What reading answers; the record is all 0 and clear beside a refusal.
-#[derive(Clone, Copy)]
+#[derive(Clone, Copy, Debug, PartialEq, Eq)]
 pub struct ReadAsdu {
     pub asdu: Asdu,
-    pub answer: Answer,
+    pub answer: Result<(), Refusal>,
 }
 
-// How many octets were written, or why none.
-#[derive(Clone, Copy)]
-pub enum WriteAnswer {
-    Octets(usize),
-    Refused(Refusal),
-}
-
-// Whether writing the reading of an ASDU or a frame gives the same octets, or some have reserved bits set, or it does not read.
-#[derive(Clone, Copy)]
-pub enum PlainAnswer {
+// Whether writing the reading of an ASDU or a frame gives the same octets, or some have reserved bits set.
+#[derive(Clone, Copy, Debug, PartialEq, Eq)]
+pub enum Form {
     Plain,
     Reserved,
-    Refused(Refusal),
 }

@@ -5,23 +5,19 @@ ghost use Rattle.std.specs.Prelude.{◌≡◌, ◌≤◌};
 ghost use Rattle.objects.specs.Kinds.{form_of};
 ghost use Rattle.asdu.specs.Plain.{has_reserved, plain_form, plain_objects, plain_answer};
 
-use asdu::header::{Header, HeaderAnswer};
-use asdu::{PlainAnswer, checking, header};
+use asdu::header::Header;
+use asdu::{Form, checking, header};
+use elements::refusals::Refusal;
 use objects::kinds::Kind;
 
 // Whether a kind's elements have reserved bits at all: if not, no element is looked at.
 fn has_reserved(kind: Kind) -> bool
     ensures { result ≡ has_reserved kind }
 {
-    match kind {
-        Kind::MItNa1 => false,
-        Kind::MMeNd1 => false,
-        Kind::MEiNa1 => false,
-        Kind::CIcNa1 => false,
-        Kind::CCiNa1 => false,
-        Kind::CRdNa1 => false,
-        _ => true,
-    }
+    !matches!(
+        kind,
+        Kind::MItNa1 | Kind::MMeNd1 | Kind::MEiNa1 | Kind::CIcNa1 | Kind::CCiNa1 | Kind::CRdNa1
+    )
 }
 
 // The reserved bits of an element lie in its last octet: 0E hex of SIQ and QDS, 0C of DIQ.
@@ -44,35 +40,26 @@ fn objects_are_plain(s: &[u8], h: Header) -> bool
     requires { h.count ≤ 127 }
     ensures { result ≡ plain_objects h s.now }
 {
-    let n = h.count;
     let kind = h.kind;
     if !has_reserved(kind) {
         return true;
     }
     let step = header::step_of(kind, h.sequence);
-    let mut i: usize = 0;
-    while i < n {
+    for i in 0..h.count {
         if !element_is_plain(laws::part_from(s, 9 + i * step), kind) {
             return false;
         }
-        i += 1;
     }
     true
 }
 
-pub fn plain_asdu(s: &[u8]) -> PlainAnswer
+#[tactic(auto, unfolding(asdu::specs::Plain::plain_answer))]
+pub fn plain_asdu(s: &[u8]) -> Result<Form, Refusal>
     ensures { result ≡ plain_answer s.now }
 {
-    let answer = header::read_header(s);
-    let HeaderAnswer::Header(h) = answer else {
-        return PlainAnswer::Refused(answer.refusal());
-    };
-    let r = checking::objects_refusal(s, h);
-    if !r.is_none() {
-        return PlainAnswer::Refused(r);
-    }
+    let h = checking::checked_header(s)?;
     if objects_are_plain(s, h) {
-        return PlainAnswer::Plain;
+        return Ok(Form::Plain);
     }
-    PlainAnswer::Reserved
+    Ok(Form::Reserved)
 }

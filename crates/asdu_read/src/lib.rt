@@ -1,16 +1,13 @@
-// Reading an ASDU to its record (asdu.rs, `Asdu::parse`). Where the Rust used the question mark, an answer is taken apart
-// and a refusal leaves at once.
+// Reading an ASDU to its record (asdu.rs, `Asdu::parse`).
 #![tactic(auto)]
 
-ghost use Rattle.std.specs.Prelude.{◌≡◌, ◌+◌, ◌≤◌, drop};
-ghost use Rattle.laws.specs.Choice.{pick};
-ghost use Rattle.laws.specs.Numbers.{le_of};
+ghost use Rattle.std.specs.Prelude.{◌≡◌};
 ghost use Rattle.asdu.specs.Records.{blanks, asdu_of, no_asdu};
-ghost use Rattle.asdu.specs.Reading.{answer_at, read_asdu};
+ghost use Rattle.asdu.specs.Reading.{read_asdu};
 
-use asdu::header::{Header, HeaderAnswer};
-use asdu::{Answer, Asdu, ReadAsdu, checking, header};
-use objects::{Object, ObjectAnswer, values};
+use asdu::header::Header;
+use asdu::{Asdu, ReadAsdu, checking, objects_at};
+use objects::Object;
 
 #[tactic(auto, unfolding(asdu::specs::Records::blanks, laws::specs::Lists::padded))]
 fn blank_objects() -> [Object; 127]
@@ -38,29 +35,6 @@ fn no_record() -> Asdu
     }
 }
 
-// The address of object i: in a sequence the first one and the index, else its own.
-fn address_at(s: &[u8], sequence: bool, i: usize, at: usize) -> u32
-    requires { (i ≤ 127) × (at ≤ 2040) }
-    ensures { result ≡ pick sequence (le_of 3 (drop 6 s.now) + i) (le_of 3 (drop (6 + at) s.now)) }
-{
-    if sequence {
-        return laws::le::<3>(s, 6) + (i as u32);
-    }
-    laws::le::<3>(s, 6 + at)
-}
-
-// In both layouts element 0 begins at octet 9, after the header and the first address, and element i comes i steps later.
-fn object_answer(s: &[u8], h: Header, i: usize) -> ObjectAnswer
-    requires { i ≤ 127 }
-    ensures { result ≡ answer_at h s.now i }
-{
-    let kind = h.kind;
-    let at = i * header::step_of(kind, h.sequence);
-    let address = address_at(s, h.sequence, i, at);
-    let value = values::read_element(laws::part_from(s, 9 + at), kind);
-    objects::object_at(address, value)
-}
-
 fn with_objects(h: Header) -> Asdu
     ensures { result ≡ asdu_of h blanks }
 {
@@ -69,7 +43,7 @@ fn with_objects(h: Header) -> Asdu
     Asdu {
         objects,
         count: h.count,
-        type_id: objects::kinds::type_of(kind),
+        type_id: u8::from(kind),
         sequence: h.sequence,
         test: h.test,
         negative: h.negative,
@@ -81,40 +55,25 @@ fn with_objects(h: Header) -> Asdu
 
 // The record alone, for a caller that has checked the octets: where reading refuses them, it is all 0 and clear.
 // It is filled where it was made, and copied once, to the caller.
+#[tactic(auto, unfolding(asdu::specs::Reading::read_asdu))]
 pub fn read_record(s: &[u8]) -> Asdu
     ensures { result ≡ (read_asdu s.now).asdu }
 {
-    let found = header::read_header(s);
-    let HeaderAnswer::Header(h) = found else {
+    let Ok(h) = checking::checked_header(s) else {
         return no_record();
     };
-    let n = h.count;
     let mut asdu = with_objects(h);
-    let mut i: usize = 0;
-    while i < n {
-        let answer = object_answer(s, h, i);
-        let ObjectAnswer::Object(object) = answer else {
-            return no_record();
-        };
-        asdu.objects[i] = object;
-        i += 1;
+    for i in 0..h.count {
+        asdu.objects[i] = objects_at::object_in(s, h.kind, h.sequence, i as u8);
     }
     asdu
 }
 
+#[tactic(auto, unfolding(asdu::specs::Reading::read_asdu))]
 pub fn read_asdu(s: &[u8]) -> ReadAsdu
     ensures { result ≡ read_asdu s.now }
 {
     let asdu = read_record(s);
-    let refusal = checking::check_asdu(s);
-    if !refusal.is_none() {
-        return ReadAsdu {
-            asdu,
-            answer: Answer::Refused(refusal),
-        };
-    }
-    ReadAsdu {
-        asdu,
-        answer: Answer::Accepted,
-    }
+    let answer = checking::check_asdu(s);
+    ReadAsdu { asdu, answer }
 }

@@ -1,195 +1,99 @@
 // Writing an ASDU into a lent output (asdu.rs, `Asdu::to_bytes`).
 #![tactic(auto)]
 
-ghost use Rattle.std.specs.Prelude.{◌≡◌, false, ◌+◌, ◌≤◌, ◌<◌, length, drop};
+ghost use Rattle.std.specs.Prelude.{◌≡◌, ◌+◌, ◌≤◌, [], ◌∷◌, length, IfOk};
 ghost use Rattle.std.proofs.lemmas.List.Edits.{sets};
-ghost use Rattle.elements.specs.Refusals.{refusal};
-ghost use Rattle.asdu.specs.Writing.{own_objects, first_address, first_refusal, shape_refusal, size_refusal, write_refusal_by, write_refusal, header_octets, address_octets, body_octets, objects_octets, asdu_octets, write_answer, written};
+ghost use Rattle.laws.specs.Bits.{num, octet};
+ghost use Rattle.elements.specs.Refusals.{answer};
+ghost use Rattle.asdu.specs.Header.{count_layout, cause_layout};
+ghost use Rattle.asdu.specs.Writing.{first_refusal, shape_refusal, size_refusal, write_refusal, header_octets, address_octets, body_octets, objects_octets, asdu_octets, write_answer, written};
 ghost use Rattle.asdu.specs.Puts.{Put};
-ghost use Rattle.objects.specs.Objects.{object_refusal};
-ghost use Rattle.objects.specs.declared.kinds.KindAnswer.TheVariants.{Carried};
 
-use asdu::{Asdu, WriteAnswer, header};
+use asdu::{Asdu, header};
 use elements::refusals::Refusal;
-use objects::kinds::{Kind, KindAnswer};
+use objects::kinds::Kind;
 use objects::{Object, kinds, values};
 
-#[tactic(auto, unfolding(asdu::specs::Writing::shape_refusal))]
-fn shape_refusal(kind: Kind, sequence: bool, n: usize) -> Refusal
-    ensures { result ≡ refusal (shape_refusal kind sequence n) }
+#[tactic(auto, unfolding(asdu::specs::Writing::shape_refusal, elements::specs::Refusals::refusal))]
+fn check_shape(kind: Kind, sequence: bool, n: usize) -> Result<(), Refusal>
+    ensures { result ≡ answer (shape_refusal kind sequence n) tt }
 {
     if header::MAX_OBJECTS < n {
-        return Refusal::LAYOUT_MISMATCH;
+        return Err(Refusal::LayoutMismatch);
     }
-    if !sequence {
-        return Refusal::NONE;
+    if sequence && (n == 0 || kinds::size_of(kind) == 0) {
+        return Err(Refusal::EmptySequence);
     }
-    if n == 0 {
-        return Refusal::EMPTY_SEQUENCE;
-    }
-    if kinds::size_of(kind) == 0 {
-        return Refusal::EMPTY_SEQUENCE;
-    }
-    Refusal::NONE
+    Ok(())
 }
 
-// The first object of a record, whose address is the first: no index to hold it to. It says again what `object_refusal` says,
-// which goes into the loop only if it is called once (docs/DECISIONS.md, decision 39).
-fn first_refusal(kind: Kind, object: Object) -> Refusal
-    ensures { result ≡ refusal (object_refusal kind false 0 0 object) }
+// What is refused of a record's own objects, in order.
+#[tactic(auto, using(crate::proofs::Rows::refusal_more, crate::proofs::Rows::refusal_end))]
+fn check_objects(own: &[Object], kind: Kind, sequence: bool, first: u32) -> Result<(), Refusal>
+    ensures { result ≡ answer (first_refusal kind sequence first 0 own.now) tt }
 {
-    let value = object.value;
-    if kinds::type_of(values::kind_of_value(value)) != kinds::type_of(kind) {
-        return Refusal::WRONG_KIND;
+    for (i, object) in own.iter().enumerate() {
+        objects::check_object(kind, sequence, first, i, *object)?;
     }
-    if objects::MAX_ADDRESS < object.address {
-        return Refusal::WRONG_ADDRESS;
-    }
-    values::value_refusal(value)
+    Ok(())
 }
 
-fn later_refusal(a: Asdu, kind: Kind, first: u32) -> Refusal
-    requires { a.count ≤ 127 }
-    ensures { result ≡ refusal (first_refusal kind a.sequence first 1 (drop 1 (own_objects a))) }
-{
-    let n = a.count;
-    let sequence = a.sequence;
-    let mut i: usize = 1;
-    while i < n {
-        let r = objects::object_refusal(kind, sequence, first, i, a.objects[i]);
-        if !r.is_none() {
-            return r;
-        }
-        i += 1;
-    }
-    Refusal::NONE
-}
-
-// A record of one object, the most frequent, is not copied for a loop over the others (decision 39).
-fn objects_refusal(a: Asdu, kind: Kind) -> Refusal
-    requires { a.count ≤ 127 }
-    ensures { result ≡ refusal (first_refusal kind a.sequence (first_address a) 0 (own_objects a)) }
-{
-    let n = a.count;
-    if n == 0 {
-        return Refusal::NONE;
-    }
-    let head = a.objects[0];
-    let first = first_refusal(kind, head);
-    if !first.is_none() {
-        return first;
-    }
-    if n == 1 {
-        return Refusal::NONE;
-    }
-    later_refusal(a, kind, head.address)
-}
-
-#[tactic(auto, unfolding(asdu::specs::Writing::size_refusal))]
-fn size_refusal(n: usize, room: usize) -> Refusal
-    ensures { result ≡ refusal (size_refusal n room) }
+#[tactic(auto, unfolding(asdu::specs::Writing::size_refusal, elements::specs::Refusals::refusal))]
+fn check_size(n: usize, room: usize) -> Result<(), Refusal>
+    ensures { result ≡ answer (size_refusal n room) tt }
 {
     if header::MAX_SIZE < n {
-        return Refusal::ASDU_TOO_LONG;
+        return Err(Refusal::AsduTooLong);
     }
     if room < n {
-        return Refusal::OUTPUT_TOO_SHORT;
+        return Err(Refusal::OutputTooShort);
     }
-    Refusal::NONE
-}
-
-fn refusal_by(a: Asdu, kind: Kind, room: usize) -> Refusal
-    ensures { result ≡ refusal (write_refusal_by (Carried kind) a room) }
-{
-    let n = a.count;
-    let shape = shape_refusal(kind, a.sequence, n);
-    if !shape.is_none() {
-        return shape;
-    }
-    let object = objects_refusal(a, kind);
-    if !object.is_none() {
-        return object;
-    }
-    size_refusal(header::needed_len(kind, a.sequence, n as u8), room)
+    Ok(())
 }
 
 // What writing into an output of `room` octets refuses.
-#[tactic(auto, unfolding(asdu::specs::Writing::write_refusal, asdu::specs::Writing::write_refusal_by))]
-pub fn write_refusal(a: Asdu, room: usize) -> Refusal
-    ensures { result ≡ refusal (write_refusal a room) }
+#[tactic(auto, using(crate::proofs::Places::shape_small), unfolding(asdu::specs::Writing::write_refusal, asdu::specs::Writing::write_refusal_by, elements::specs::Refusals::refusal))]
+pub fn check_write(a: &Asdu, room: usize) -> Result<(), Refusal>
+    ensures { result ≡ answer (write_refusal a.now room) tt }
 {
     if !header::cause_listed(a.cause) {
-        return Refusal::CAUSE_NOT_LISTED;
+        return Err(Refusal::CauseNotListed);
     }
-    let found = kinds::kind_of(a.type_id);
-    let KindAnswer::Carried(kind) = found else {
-        return Refusal::TYPE_NOT_CARRIED;
-    };
-    refusal_by(a, kind, room)
+    let kind = Kind::try_from(a.type_id)?;
+    check_shape(kind, a.sequence, a.count)?;
+    let own = &a.objects[..a.count];
+    check_objects(own, kind, a.sequence, a.objects[0].address)?;
+    check_size(header::needed_len(kind, a.sequence, a.count as u8), room)
 }
 
-fn put_header(out: &mut [u8], a: Asdu)
-    requires { (a.count ≤ 127) × (a.cause ≤ 63) }
-    ensures { out.new ≡ sets out.old 0 (header_octets a) }
+fn count_octet(a: &Asdu) -> u8
+    requires { a.now.count ≤ 127 }
+    ensures { result ≡ octet count_layout (a.now.count ∷ num a.now.sequence ∷ []) }
 {
-    let n = a.count;
+    (a.count as u8) + laws::bit(a.sequence) * 128
+}
+
+fn cause_octet(a: &Asdu) -> u8
+    requires { a.now.cause ≤ 63 }
+    ensures { result ≡ octet cause_layout (a.now.cause ∷ num a.now.negative ∷ num a.now.test ∷ []) }
+{
+    a.cause + laws::bit(a.negative) * 64 + laws::bit(a.test) * 128
+}
+
+#[tactic(auto, unfolding(asdu::specs::Writing::header_octets))]
+fn put_header(out: &mut [u8], a: &Asdu)
+    requires { (a.now.count ≤ 127) × (a.now.cause ≤ 63) }
+    ensures { out.new ≡ sets out.old 0 (header_octets a.now) }
+{
     laws::put_octet(out, 0, a.type_id);
-    laws::put_octet(out, 1, (n as u8) + laws::bit(a.sequence) * 128);
-    laws::put_octet(
-        out,
-        2,
-        a.cause + laws::bit(a.negative) * 64 + laws::bit(a.test) * 128,
-    );
+    laws::put_octet(out, 1, count_octet(a));
+    laws::put_octet(out, 2, cause_octet(a));
     laws::put_octet(out, 3, a.originator);
     laws::put_le::<2>(out, 4, a.address as u32);
 }
 
-// One object from a place on; the answer is the place after it.
-fn put_body(out: &mut [u8], at: usize, sequence: bool, object: Object) -> usize
-    requires { at + length (body_octets sequence object) ≤ length out.old }
-    ensures { Put out.old at (body_octets sequence object) result out.new }
-{
-    let value = object.value;
-    let size = kinds::size_of(values::kind_of_value(value));
-    if sequence {
-        values::put_element(&mut out[at..], value);
-        return at + size;
-    }
-    objects::put_object(&mut out[at..], object);
-    at + 3 + size
-}
-
-fn put_later(out: &mut [u8], from: usize, a: Asdu) -> usize
-    requires { (a.count ≤ 127) × (from + length (objects_octets a.sequence (drop 1 (own_objects a))) ≤ length out.old) }
-    ensures { Put out.old from (objects_octets a.sequence (drop 1 (own_objects a))) result out.new }
-{
-    let n = a.count;
-    let sequence = a.sequence;
-    let mut at = from;
-    let mut i: usize = 1;
-    while i < n {
-        at = put_body(out, at, sequence, a.objects[i]);
-        i += 1;
-    }
-    at
-}
-
-fn put_bodies(out: &mut [u8], from: usize, a: Asdu) -> usize
-    requires { (a.count ≤ 127) × (from + length (objects_octets a.sequence (own_objects a)) ≤ length out.old) }
-    ensures { Put out.old from (objects_octets a.sequence (own_objects a)) result out.new }
-{
-    let n = a.count;
-    if n == 0 {
-        return from;
-    }
-    let at = put_body(&mut *out, from, a.sequence, a.objects[0]);
-    if n == 1 {
-        return at;
-    }
-    put_later(out, at, a)
-}
-
 // The one address of a sequence; the answer is the place of the first object.
+#[tactic(auto, unfolding(asdu::specs::Writing::address_octets, laws::specs::Numbers::le_octets))]
 fn put_first(out: &mut [u8], sequence: bool, first: u32) -> usize
     ensures { Put out.old 6 (address_octets sequence first) result out.new }
 {
@@ -200,23 +104,41 @@ fn put_first(out: &mut [u8], sequence: bool, first: u32) -> usize
     6
 }
 
-fn put_asdu(out: &mut [u8], a: Asdu) -> usize
-    requires { (length (asdu_octets a) ≤ length out.old) × (a.count ≤ 127) × (a.cause ≤ 63) }
-    ensures { Put out.old 0 (asdu_octets a) result out.new }
+// One object from a place on; the answer is the place after it.
+fn put_body(out: &mut [u8], at: usize, sequence: bool, object: Object) -> usize
+    requires { at + length (body_octets sequence object) ≤ length out.old }
+    ensures { Put out.old at (body_octets sequence object) result out.new }
 {
-    put_header(out, a);
-    let head = a.objects[0];
-    let from = put_first(out, a.sequence, head.address);
-    put_bodies(out, from, a)
+    let value = object.value;
+    let size = kinds::size_of(Kind::from(value));
+    if sequence {
+        values::put_element(&mut out[at..], value);
+        return at + size;
+    }
+    objects::put_object(&mut out[at..], object);
+    at + 3 + size
 }
 
-pub fn write_asdu(a: Asdu, out: &mut [u8]) -> WriteAnswer
-    ensures value { result ≡ write_answer a (length out.old) }
-    ensures out_after { out.new ≡ written a out.old }
+#[tactic(auto, using(crate::proofs::Rows::octets_more, crate::proofs::Rows::octets_long, crate::proofs::Rows::octets_end, crate::proofs::Places::put_long, laws::proofs::Lists::sets_append))]
+fn put_bodies(out: &mut [u8], from: usize, sequence: bool, own: &[Object]) -> usize
+    requires { from + length (objects_octets sequence own.now) ≤ length out.old }
+    ensures { Put out.old from (objects_octets sequence own.now) result out.new }
 {
-    let r = write_refusal(a, out.len());
-    if !r.is_none() {
-        return WriteAnswer::Refused(r);
+    let mut at = from;
+    for object in own {
+        at = put_body(out, at, sequence, *object);
     }
-    WriteAnswer::Octets(put_asdu(out, a))
+    at
+}
+
+#[tactic(auto, using(crate::proofs::Places::fields_fit, crate::proofs::Places::bodies_room, crate::proofs::Places::room_enough, crate::proofs::Places::asdu_small, crate::proofs::Places::put_long, crate::proofs::Places::parts_stored), unfolding(asdu::specs::Writing::write_answer, asdu::specs::Writing::written))]
+pub fn write_asdu(a: &Asdu, out: &mut [u8]) -> Result<usize, Refusal>
+    ensures value { result ≡ write_answer a.now (length out.old) }
+    ensures out_after { out.new ≡ written a.now out.old }
+    ensures bounds { IfOk result (λ n. (n ≤ 249) × (n ≤ length out.old)) }
+{
+    check_write(a, out.len())?;
+    put_header(out, a);
+    let from = put_first(out, a.sequence, a.objects[0].address);
+    Ok(put_bodies(out, from, a.sequence, &a.objects[..a.count]))
 }

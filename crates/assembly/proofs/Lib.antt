@@ -1,4 +1,3 @@
-pub mod Hands
 pub mod Sights
 pub mod Moves
 pub mod Steps

@@ -1,58 +1,50 @@
--- Topping up as the code comes to it: what is refused, how much is moved, and what is stored. Assumes nothing.
+-- A carry that is not refused, and how much topping up moves into it at most. Assumes nothing.
 use Prim.Native.Nat.{ℕ, ◌+◌, ◌-◌, ◌≤◌, min}
-use mathlib.Core.Path.{◌≡◌, refl}
+use mathlib.Core.Path.{◌≡◌, refl, subst}
 use mathlib.Core.Bool.{Bool, true, false}
 use mathlib.Core.List.{List}
 use native.Mathlib.Omega.{arith}
-use lib.Dec.{eqb, ltb}
-use lib.ListN.{length, get_or, take}
-use lib.Seq.{sets}
-use borrow.Author.Tests.{eqb-true, ltb-true}
+use lib.Dec.{ltb}
+use lib.ListN.{length, get_or}
+use borrow.Author.Tests.{ltb-true, ltb-false}
+use Rattle.std.specs.Prelude.{Ok}
 use Rattle.laws.specs.Choice.{pick}
-use Rattle.laws.proofs.Choices.{both}
-use Rattle.elements.specs.Refusals.{refusal}
-use Rattle.elements.specs.declared.refusals.Refusal.{Refusal}
+use Rattle.laws.proofs.Choices.{passed, both}
+use Rattle.elements.specs.Refusals.{answer}
+use Rattle.elements.proofs.Refused.{made_some}
 use Rattle.assembly.specs.Start.{start_refusal, carry_refusal}
-use Rattle.assembly.specs.Topping.{on_hand, top_up_refusal, moving, top_up_answer, topped}
-use Rattle.assembly.specs.declared.topping.TopUpAnswer.TheVariants.{Moved, Refused}
+use Rattle.assembly.specs.Topping.{on_hand, top_up_refusal, moving, top_up_answer}
 use Rattle.assembly.proofs.Sights.{taken}
-use Rattle.assembly.proofs.Hands.{carry_fits}
+
+-- a carry that is not refused
+pub carry_fits : (room held : ℕ) → carry_refusal room held ≡ 0 → (255 ≤ room) × (held ≤ 255)
+unfolding carry_refusal
+carry_fits room held h =
+    let a = passed (ltb room 255) 32 _ h in
+    let b = passed (ltb 255 held) 32 _ a.1 in
+    (ltb-false _ _ a.0, ltb-false _ _ b.0)
 
 module _ (carry : List ℕ) (held : ℕ) (chunk : List ℕ) where
-  pub refuse : {w : Refusal} → w ≡ refusal (top_up_refusal carry held chunk) → eqb (top_up_refusal carry held chunk) 0 ≡ false
-      → (Refused w ≡ top_up_answer carry held chunk) × (carry ≡ topped carry held chunk)
-  unfolding top_up_answer topped
-  refuse is some = (rw (some, is), rw some)
+  -- what is moved never brings the carry above the longest frame
+  small : top_up_refusal carry held chunk ≡ 0 → held + moving carry held chunk ≤ 255
+  unfolding top_up_refusal moving
+  small none =
+      let start = both (carry_refusal (length carry) held) _ none in
+      by (ltb (held + length chunk) 3) (carry_fits _ _ start.0).1 refl start.1
+    where
+      l : ℕ
+      l = get_or (on_hand carry held chunk) 1 0
 
-  pub accept : {m : ℕ} {after : List ℕ} → top_up_refusal carry held chunk ≡ 0 → m ≡ moving carry held chunk → after ≡ sets carry held (take m chunk)
-      → (Moved m ≡ top_up_answer carry held chunk) × (after ≡ topped carry held chunk)
-  unfolding top_up_answer topped
-  accept none e stored = (rw (none, e), rw (none, stored, e))
-
-  module _ (none : top_up_refusal carry held chunk ≡ 0) where
-    pub room : (255 ≤ length carry) × (held ≤ 255)
-    unfolding top_up_refusal
-    room = carry_fits _ _ (both (carry_refusal (length carry) held) _ none).0
-
-    -- what is moved never brings the carry above the longest frame
-    small : held + moving carry held chunk ≤ 255
-    unfolding top_up_refusal moving
-    small = by (ltb (held + length chunk) 3) refl (both (carry_refusal (length carry) held) _ none).1
-      where
-        l : ℕ
-        l = get_or (on_hand carry held chunk) 1 0
-
-        by : (t : Bool) → ltb (held + length chunk) 3 ≡ t → pick t 0 (start_refusal (get_or (on_hand carry held chunk) 0 0) l) ≡ 0
-            → held + pick t (length chunk) (min (2 + l - held) (length chunk)) ≤ 255
-        by true b z = omega (arith, ltb-true (held + length chunk) 3 b)
-        by false b z = omega (arith, room, (taken _ l z).most)
+      by : (t : Bool) → held ≤ 255 → ltb (held + length chunk) 3 ≡ t → pick t 0 (start_refusal (get_or (on_hand carry held chunk) 0 0) l) ≡ 0
+          → held + pick t (length chunk) (min (2 + l - held) (length chunk)) ≤ 255
+      by true h b z = omega (arith, ltb-true (held + length chunk) 3 b)
+      by false h b z = omega (arith, (taken _ l z).most)
 
   -- an answer that tells of moved bytes was not refused
-  pub moved_small : (m : ℕ) → top_up_answer carry held chunk ≡ Moved m → held + m ≤ 255
+  pub moved_small : (m : ℕ) → top_up_answer carry held chunk ≡ Ok m → held + m ≤ 255
   unfolding top_up_answer
-  moved_small m e = by (eqb (top_up_refusal carry held chunk) 0) refl e
-    where
-      by : (t : Bool) → eqb (top_up_refusal carry held chunk) 0 ≡ t
-          → pick t (Moved (moving carry held chunk)) (Refused (refusal (top_up_refusal carry held chunk))) ≡ Moved m → held + m ≤ 255
-      by true b g = let same : moving carry held chunk ≡ m = cc in omega (arith, small (eqb-true _ 0 b))
-      by false b g = let z : ◌≡◌ {A = ℕ} 0 1 = cc in absurd (omega arith)
+  moved_small m e =
+      let none = made_some (top_up_refusal carry held chunk) _ m e in
+      let moved = subst (λ (n : ℕ). answer n (moving carry held chunk) ≡ Ok m) none e in
+      let same : moving carry held chunk ≡ m = cc in
+      omega (arith, small none)

@@ -1,8 +1,9 @@
 -- What stands at the start of some bytes: what each answer shows, and what it says of more bytes and of fewer. Assumes nothing.
 use Prim.Native.Nat.{ℕ, ◌+◌, ◌<◌, ◌≤◌}
-use mathlib.Core.Path.{◌≡◌, refl, sym, ap, ◌∙◌}
+use mathlib.Core.Path.{◌≡◌, refl, sym, ◌∙◌}
 use mathlib.Core.Bool.{Bool, true, false}
 use mathlib.Core.List.{List, ◌++◌}
+use Rattle.std.specs.Prelude.{None, Some, Ok, Err}
 use native.Mathlib.Omega.{arith}
 use native.Mathlib.Decide.{dec_lt}
 use borrow.Author.Tests.{eqb-true, ltb-true, ltb-false, lt-ltb, le-ltb}
@@ -13,7 +14,6 @@ use Rattle.laws.proofs.Choices.{passed, held}
 use Rattle.elements.specs.Refusals.{refusal}
 use Rattle.elements.specs.declared.refusals.Refusal.{Refusal}
 use Rattle.assembly.specs.Start.{start_refusal, sight, start_answer}
-use Rattle.assembly.specs.declared.start.StartAnswer.TheVariants.{Whole, More, Refused}
 
 -- ---- by the number of bytes, the first and L
 
@@ -32,25 +32,25 @@ taken first l h =
 
 -- the answer, with what it shows
 pub data Sight (n first l : ℕ) : Type 0 where
-  few : n < 3 → sight n first l ≡ More → Sight n first l
-  part : 3 ≤ n → start_refusal first l ≡ 0 → n < 2 + l → sight n first l ≡ More → Sight n first l
-  whole : 3 ≤ n → start_refusal first l ≡ 0 → 2 + l ≤ n → sight n first l ≡ Whole (2 + l) → Sight n first l
-  bad : 3 ≤ n → eqb (start_refusal first l) 0 ≡ false → sight n first l ≡ Refused (refusal (start_refusal first l)) → Sight n first l
+  few : n < 3 → sight n first l ≡ Ok None → Sight n first l
+  part : 3 ≤ n → start_refusal first l ≡ 0 → n < 2 + l → sight n first l ≡ Ok None → Sight n first l
+  whole : 3 ≤ n → start_refusal first l ≡ 0 → 2 + l ≤ n → sight n first l ≡ Ok (Some (2 + l)) → Sight n first l
+  bad : 3 ≤ n → eqb (start_refusal first l) 0 ≡ false → sight n first l ≡ Err (refusal (start_refusal first l)) → Sight n first l
 
 module _ (n first l : ℕ) where
-  pub few_more : n < 3 → sight n first l ≡ More
+  pub few_more : n < 3 → sight n first l ≡ Ok None
   unfolding sight
   few_more h = rw (lt-ltb n 3 h)
 
-  pub part_more : 3 ≤ n → start_refusal first l ≡ 0 → n < 2 + l → sight n first l ≡ More
+  pub part_more : 3 ≤ n → start_refusal first l ≡ 0 → n < 2 + l → sight n first l ≡ Ok None
   unfolding sight
   part_more h z g = rw (le-ltb n 3 h, z, lt-ltb n (2 + l) g)
 
-  pub enough_whole : 3 ≤ n → start_refusal first l ≡ 0 → 2 + l ≤ n → sight n first l ≡ Whole (2 + l)
+  pub enough_whole : 3 ≤ n → start_refusal first l ≡ 0 → 2 + l ≤ n → sight n first l ≡ Ok (Some (2 + l))
   unfolding sight
   enough_whole h z g = rw (le-ltb n 3 h, z, le-ltb n (2 + l) g)
 
-  pub enough_refused : 3 ≤ n → eqb (start_refusal first l) 0 ≡ false → sight n first l ≡ Refused (refusal (start_refusal first l))
+  pub enough_refused : 3 ≤ n → eqb (start_refusal first l) 0 ≡ false → sight n first l ≡ Err (refusal (start_refusal first l))
   unfolding sight
   enough_refused h z = rw (le-ltb n 3 h, z)
 
@@ -71,16 +71,6 @@ module _ (n first l : ℕ) where
           whole a z s (enough_whole a z s)
       by false false w e g h = let a = ltb-false n 3 e in bad a g (enough_refused a g)
 
--- three answers
-whole_more : {n : ℕ} → Whole n ≡ More → ⊥
-whole_more e = let z : ◌≡◌ {A = ℕ} 0 1 = cc in omega arith
-
-refused_more : {r : Refusal} → Refused r ≡ More → ⊥
-refused_more e = let z : ◌≡◌ {A = ℕ} 0 1 = cc in omega arith
-
-whole_refused : {n : ℕ} {r : Refusal} → Whole n ≡ Refused r → ⊥
-whole_refused e = let z : ◌≡◌ {A = ℕ} 0 1 = cc in omega arith
-
 -- a whole frame
 pub record Frame (n first l m : ℕ) : Type 0 where
   pub size : m ≡ 2 + l
@@ -89,17 +79,16 @@ pub record Frame (n first l m : ℕ) : Type 0 where
   pub none : start_refusal first l ≡ 0
   pub shape : Taken first l
 
-pub frame_of : (n first l m : ℕ) → sight n first l ≡ Whole m → Frame n first l m
+pub frame_of : (n first l m : ℕ) → sight n first l ≡ Ok (Some m) → Frame n first l m
 frame_of n first l m e = by (view n first l)
   where
     by : Sight n first l → Frame n first l m
-    by (few h g) = absurd (whole_more (sym e ∙ g))
-    by (part h z s g) = absurd (whole_more (sym e ∙ g))
+    by (few h g) = let z : ◌≡◌ {A = ℕ} 0 1 = cc in absurd (omega arith)
+    by (part h z s g) = let z : ◌≡◌ {A = ℕ} 0 1 = cc in absurd (omega arith)
     by (whole h z s g) =
-        let same : Whole m ≡ Whole (2 + l) = sym e ∙ g in
         let size : m ≡ 2 + l = cc in
         record { size = size; there = omega arith; enough = h; none = z; shape = taken first l z }
-    by (bad h z g) = absurd (whole_refused (sym e ∙ g))
+    by (bad h z g) = let z : ◌≡◌ {A = ℕ} 0 1 = cc in absurd (omega arith)
 
 -- a refusal
 pub record Bad (n first l : ℕ) (r : Refusal) : Type 0 where
@@ -107,26 +96,25 @@ pub record Bad (n first l : ℕ) (r : Refusal) : Type 0 where
   pub some : eqb (start_refusal first l) 0 ≡ false
   pub is : r ≡ refusal (start_refusal first l)
 
-pub bad_of : (n first l : ℕ) (r : Refusal) → sight n first l ≡ Refused r → Bad n first l r
+pub bad_of : (n first l : ℕ) (r : Refusal) → sight n first l ≡ Err r → Bad n first l r
 bad_of n first l r e = by (view n first l)
   where
     by : Sight n first l → Bad n first l r
-    by (few h g) = absurd (refused_more (sym e ∙ g))
-    by (part h z s g) = absurd (refused_more (sym e ∙ g))
-    by (whole h z s g) = absurd (whole_refused (sym g ∙ e))
+    by (few h g) = let z : ◌≡◌ {A = ℕ} 0 1 = cc in absurd (omega arith)
+    by (part h z s g) = let z : ◌≡◌ {A = ℕ} 0 1 = cc in absurd (omega arith)
+    by (whole h z s g) = let z : ◌≡◌ {A = ℕ} 0 1 = cc in absurd (omega arith)
     by (bad h z g) =
-        let same : Refused r ≡ Refused (refusal (start_refusal first l)) = sym e ∙ g in
         record { enough = h; some = z; is = cc }
 
 -- more bytes are needed: fewer than a frame, so at most 254
-pub more_few : (n first l : ℕ) → sight n first l ≡ More → n ≤ 254
+pub more_few : (n first l : ℕ) → sight n first l ≡ Ok None → n ≤ 254
 more_few n first l e = by (view n first l)
   where
     by : Sight n first l → n ≤ 254
     by (few h g) = omega arith
     by (part h z s g) = let t = taken first l z in omega (arith, t.most)
-    by (whole h z s g) = absurd (whole_more (sym g ∙ e))
-    by (bad h z g) = absurd (refused_more (sym g ∙ e))
+    by (whole h z s g) = let z : ◌≡◌ {A = ℕ} 0 1 = cc in absurd (omega arith)
+    by (bad h z g) = let z : ◌≡◌ {A = ℕ} 0 1 = cc in absurd (omega arith)
 
 -- ---- of lists
 
@@ -135,32 +123,34 @@ module _ (a b : List ℕ) where
   longer h =
       rw (length-append a b, get_or-append a b 0 0 (omega arith), get_or-append a b 0 1 (omega arith))
 
-  pub longer_whole : (n : ℕ) → start_answer a ≡ Whole n → start_answer (a ++ b) ≡ Whole n
+  pub longer_whole : (n : ℕ) → start_answer a ≡ Ok (Some n) → start_answer (a ++ b) ≡ Ok (Some n)
   longer_whole n e =
       let f = frame_of (length a) (get_or a 0 0) (get_or a 1 0) n e in
-      longer f.enough ∙ (enough_whole _ _ _ (omega (arith, f.enough)) f.none (omega (arith, f.size, f.there)) ∙ ap Whole (sym f.size))
+      longer f.enough ∙ (enough_whole _ _ _ (omega (arith, f.enough)) f.none (omega (arith, f.size, f.there)) ∙ rw f.size refl)
 
-  pub longer_refused : (r : Refusal) → start_answer a ≡ Refused r → start_answer (a ++ b) ≡ Refused r
+  pub longer_refused : (r : Refusal) → start_answer a ≡ Err r → start_answer (a ++ b) ≡ Err r
   longer_refused r e =
       let f = bad_of (length a) (get_or a 0 0) (get_or a 1 0) r e in
-      longer f.enough ∙ (enough_refused _ _ _ (omega (arith, f.enough)) f.some ∙ ap Refused (sym f.is))
+      longer f.enough ∙ (enough_refused _ _ _ (omega (arith, f.enough)) f.some ∙ rw f.is refl)
 
 -- the first n bytes of some that begin with a whole frame of n
-pub first_whole : (s : List ℕ) (n : ℕ) → start_answer s ≡ Whole n → start_answer (take n s) ≡ Whole n
+pub first_whole : (s : List ℕ) (n : ℕ) → start_answer s ≡ Ok (Some n) → start_answer (take n s) ≡ Ok (Some n)
 first_whole s n e =
     let f = frame_of (length s) (get_or s 0 0) (get_or s 1 0) n e in
     let long : length (take n s) ≡ n = length-take-le n s f.there in
     let big : 6 ≤ n = omega (arith, f.size, f.shape.least) in
     rw (long, get_or-take n s 0 0 (omega arith), get_or-take n s 1 0 (omega arith))
-    (enough_whole n _ _ (omega arith) f.none (omega (arith, f.size)) ∙ ap Whole (sym f.size))
+    (enough_whole n _ _ (omega arith) f.none (omega (arith, f.size)) ∙ rw f.size refl)
 
 -- a start of which more is needed is shorter than the frame
-pub start_short : (a b : List ℕ) (n : ℕ) → start_answer a ≡ More → start_answer (a ++ b) ≡ Whole n → length a < n
+pub start_short : (a b : List ℕ) (n : ℕ) → start_answer a ≡ Ok None → start_answer (a ++ b) ≡ Ok (Some n) → length a < n
 start_short a b n e g = elim (dec_lt (length a) n) [
   | yes h ↦ h
   | no h ↦
       let w = frame_of _ _ _ n g in
       let big : 6 ≤ length a = omega (arith, w.size, w.shape.least) in
       let f = frame_of (length a + length b) (get_or a 0 0) (get_or a 1 0) n (sym (longer a b (omega arith)) ∙ g) in
-      absurd (whole_more (sym (enough_whole (length a) _ _ (omega arith) f.none (omega (arith, f.size))) ∙ e))
+      let full = enough_whole (length a) (get_or a 0 0) (get_or a 1 0) (omega arith) f.none (omega (arith, f.size)) in
+      let z : ◌≡◌ {A = ℕ} 0 1 = cc in
+      absurd (omega arith)
 ]

@@ -1,8 +1,8 @@
 -- The frames of a whole stream and what ends them, from its bytes alone: no carry and no chunk is in it.
-use Rattle.std.specs.Prelude.{ℕ, zero, suc, ◌+◌, List, [], ◌∷◌, ◌++◌, length, take, drop}
+use Rattle.std.specs.Prelude.{ℕ, zero, suc, ◌+◌, List, [], ◌∷◌, ◌++◌, length, take, drop, Option, None, Some, Result, Ok, Err}
+use Rattle.elements.specs.Refusals.{number}
+use Rattle.elements.specs.declared.refusals.Refusal.{Refusal}
 use Rattle.assembly.specs.Start.{start_answer}
-use Rattle.assembly.specs.declared.start.StartAnswer.{StartAnswer}
-use Rattle.assembly.specs.declared.start.StartAnswer.TheVariants.{Whole, More, Refused}
 
 -- the bytes left over, of which more is needed; or a refusal's number, and the place in the stream of the frame refused
 pub data End : Type 0 where
@@ -23,10 +23,10 @@ abbrev pub handed : List ℕ → StreamOutcome → StreamOutcome
 handed f o = record { frames = f ∷ o.frames; end = o.end }
 
 -- by what stands at the start of the bytes from place `at` on; `next` goes on after a frame
-abbrev pub outcome_by : StartAnswer → ℕ → List ℕ → (ℕ → List ℕ → StreamOutcome) → StreamOutcome
-outcome_by (Whole n) at s next = handed (take n s) (next (at + n) (drop n s))
-outcome_by More at s next = no_frames (rest s)
-outcome_by (Refused r) at s next = no_frames (refused r.0 at)
+abbrev pub outcome_by : Result (Option ℕ) Refusal → ℕ → List ℕ → (ℕ → List ℕ → StreamOutcome) → StreamOutcome
+outcome_by (Ok (Some n)) at s next = handed (take n s) (next (at + n) (drop n s))
+outcome_by (Ok None) at s next = no_frames (rest s)
+outcome_by (Err r) at s next = no_frames (refused (number r) at)
 
 -- the first number bounds the frames: a stream has no more of them than bytes
 abbrev pub stream_from : ℕ → ℕ → List ℕ → StreamOutcome

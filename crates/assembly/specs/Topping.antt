@@ -1,12 +1,12 @@
 -- "Topping up moves chunk bytes into the carry until it holds one whole frame or the chunk is used up; its answer tells how
 -- many" (document 01). On hand is the carry followed by the chunk.
-use Rattle.std.specs.Prelude.{ℕ, ◌+◌, ◌-◌, min, List, ◌++◌, length, take, get_or, ltb, eqb}
+use Rattle.std.specs.Prelude.{ℕ, ◌+◌, ◌-◌, min, List, ◌++◌, length, take, get_or, ltb, Result}
+use Rattle.std.specs.Result.{result_unwrap_or}
 use Rattle.std.proofs.lemmas.List.Edits.{sets}
 use Rattle.laws.specs.Choice.{pick, ◌then◌}
-use Rattle.elements.specs.Refusals.{refusal}
+use Rattle.elements.specs.Refusals.{answer}
+use Rattle.elements.specs.declared.refusals.Refusal.{Refusal}
 use Rattle.assembly.specs.Start.{start_refusal, carry_refusal}
-use Rattle.assembly.specs.declared.topping.TopUpAnswer.{TopUpAnswer}
-use Rattle.assembly.specs.declared.topping.TopUpAnswer.TheVariants.{Moved, Refused}
 
 -- the held bytes of the carry, then the chunk
 abbrev pub on_hand : List ℕ → ℕ → List ℕ → List ℕ
@@ -25,20 +25,12 @@ moving carry held chunk =
     pick (ltb (held + length chunk) 3) (length chunk)
     (min (2 + get_or (on_hand carry held chunk) 1 0 - held) (length chunk))
 
-unfoldable pub top_up_answer : List ℕ → ℕ → List ℕ → TopUpAnswer
-top_up_answer carry held chunk =
-    pick (eqb (top_up_refusal carry held chunk) 0)
-    (Moved (moving carry held chunk))
-    (Refused (refusal (top_up_refusal carry held chunk)))
+unfoldable pub top_up_answer : List ℕ → ℕ → List ℕ → Result ℕ Refusal
+top_up_answer carry held chunk = answer (top_up_refusal carry held chunk) (moving carry held chunk)
 
--- an answer's number, 0 where bytes were moved, and how many were
-abbrev pub top_up_number : TopUpAnswer → ℕ
-top_up_number (Moved m) = 0
-top_up_number (Refused r) = r.0
-
-abbrev pub moved_in : TopUpAnswer → ℕ
-moved_in (Moved m) = m
-moved_in (Refused r) = 0
+-- how many bytes were moved
+abbrev pub moved_in : Result ℕ Refusal → ℕ
+moved_in a = result_unwrap_or a 0
 
 -- the carry's buffer afterwards: the bytes moved stand after the held ones, every other is as it was
 unfoldable pub topped : List ℕ → ℕ → List ℕ → List ℕ

@@ -2,9 +2,9 @@
 // a user would and lets the record go where it was made: the host gets a number that depends on it, and no copy.
 #![tactic(auto)]
 
-use apdu::frame::{FrameAnswer, ReceiveNumber, SendNumber};
+use apdu::frame::{Frame, ReceiveNumber, SendNumber};
 use apdu::{reading, writing};
-use asdu::{PlainAnswer, WriteAnswer};
+use asdu::Form;
 
 // Above any number of refusal.
 const RESERVED: u32 = 100;
@@ -13,29 +13,28 @@ const RESERVED: u32 = 100;
 // whole record has to be there.
 #[unsafe(no_mangle)]
 pub extern "C" fn gb_read(f: &[u8], place: usize) -> u32 {
-    let answer = reading::read_frame(f);
-    let FrameAnswer::I(_, _) = answer else {
+    let Ok(Frame::I(_, _)) = reading::read_frame(f) else {
         return 0;
     };
     let asdu = asdu_read::read_record(reading::asdu_of(f));
-    let object = asdu.objects[place % 127];
-    object.address
+    asdu.objects[place % 127].address
 }
 
 // The number of the refusal, 0 for none.
 #[unsafe(no_mangle)]
 pub extern "C" fn gb_check(f: &[u8]) -> u32 {
-    let answer = reading::read_frame(f);
-    let refusal = answer.refusal();
-    laws::wide(refusal.0)
+    match reading::read_frame(f) {
+        Ok(_) => 0,
+        Err(refusal) => refusal as u32,
+    }
 }
 
 #[unsafe(no_mangle)]
 pub extern "C" fn gb_plain(f: &[u8]) -> u32 {
     match reading::plain_frame(f) {
-        PlainAnswer::Plain => 0,
-        PlainAnswer::Reserved => RESERVED,
-        PlainAnswer::Refused(refusal) => laws::wide(refusal.0),
+        Ok(Form::Plain) => 0,
+        Ok(Form::Reserved) => RESERVED,
+        Err(refusal) => refusal as u32,
     }
 }
 
@@ -46,8 +45,7 @@ pub extern "C" fn gb_write(f: &[u8], out: &mut [u8], times: u32) -> u32 {
     let mut length: usize = 0;
     for i in 0..times {
         asdu.originator = laws::low(i);
-        let answer = writing::write_i(SendNumber(2), ReceiveNumber(3), asdu, out);
-        let WriteAnswer::Octets(n) = answer else {
+        let Ok(n) = writing::write_i(SendNumber(2), ReceiveNumber(3), &asdu, out) else {
             return 0;
         };
         length = n;

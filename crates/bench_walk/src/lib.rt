@@ -4,7 +4,6 @@
 
 use apdu::reading;
 use asdu::header::MAX_OBJECTS;
-use asdu_walk::Found;
 use objects::Object;
 use objects::values::Value;
 
@@ -26,8 +25,7 @@ pub extern "C" fn gb_walk(f: &[u8]) -> u32 {
     let mut place = asdu_walk::start(asdu);
     let mut sum: u32 = 0;
     for _ in 0..MAX_OBJECTS {
-        let found = asdu_walk::object_from(asdu, place);
-        let Found::Object(object) = found else {
+        let Ok(Some(object)) = asdu_walk::object_from(asdu, place) else {
             return sum;
         };
         sum = sum.wrapping_add(weight(object));

@@ -1,5 +1,5 @@
 // ASDUs read, checked, written and told plain: records, and answers as numbers, as bridge_records has them.
-use asdu::{Answer, ReadAsdu, checking};
+use asdu::{ReadAsdu, checking};
 use bridge_records::{answers, records};
 
 // The record is written as far as `record` reaches, the one beside a refusal too.
@@ -10,8 +10,7 @@ pub fn gg_asdu_read(s: &[u8], record: &mut [u8]) -> u32 {
 }
 
 pub fn gg_asdu_check(s: &[u8]) -> u32 {
-    let refusal = checking::check_asdu(s);
-    laws::wide(refusal.0)
+    answers::number(checking::check_asdu(s))
 }
 
 pub fn gg_asdu_plain(s: &[u8]) -> u32 {
@@ -19,13 +18,13 @@ pub fn gg_asdu_plain(s: &[u8]) -> u32 {
 }
 
 pub fn gg_asdu_write(record: &[u8], out: &mut [u8]) -> u32 {
-    answers::length(asdu_write::write_asdu(records::record_in(record), out))
+    answers::length(asdu_write::write_asdu(&records::record_in(record), out))
 }
 
 pub fn gg_asdu_rewrite(s: &[u8], out: &mut [u8]) -> u32 {
     let ReadAsdu { asdu, answer } = asdu_read::read_asdu(s);
-    let Answer::Accepted = answer else {
+    if answer.is_err() {
         return answers::READING_REFUSED + answers::number(answer);
-    };
-    answers::length(asdu_write::write_asdu(asdu, out))
+    }
+    answers::length(asdu_write::write_asdu(&asdu, out))
 }

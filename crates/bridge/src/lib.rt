@@ -1,25 +1,26 @@
 // The proved library for the programs that test it: host/ links these functions as `bridge_c` hands them on to C, and replay
-// and drive_frames call them. An element is the list of its fields (bridge_records, fields.rt). What may be refused is
+// calls them. An element is the list of its fields (bridge_records, fields.rt). What may be refused is
 // written to `out`, with the number of the refusal as the result, 0 for none. A list that is too short reads as 0 and takes
-// nothing past its end, so no call can fail. Frames are in `bridge_frames`.
+// nothing past its end, so no call can fail. Frames are in `bridge_frames`. Kept one for each type: C calls them by name.
 #![tactic(auto)]
 
 pub mod asdus;
 pub mod walks;
 
 use bridge_records::fields;
+use bridge_records::fields::Listed;
 use elements::information_elements::{Coi, Diq, Siq, Vti};
 use elements::numbers::Signed;
 use elements::quality_descriptors::{Qds, SeqQd};
-use elements::refusals::{OctetAnswer, PairAnswer};
+use elements::refusals::Refusal;
 
-fn put_answer(out: &mut [u8], answer: OctetAnswer) -> u8 {
+fn put_answer<L: Listed>(out: &mut [u8], answer: Result<L, Refusal>) -> u8 {
     match answer {
-        OctetAnswer::Octet(octet) => {
-            laws::put_octet(out, 0, octet);
+        Ok(octets) => {
+            fields::put(out, octets);
             0
         }
-        OctetAnswer::Refused(refusal) => refusal.0,
+        Err(refusal) => u8::from(refusal),
     }
 }
 
@@ -77,13 +78,7 @@ pub fn gg_write_vti(value: i8, s: &[u8], out: &mut [u8]) -> u8 {
         transient,
         qds,
     };
-    match vti.to_bytes() {
-        PairAnswer::Octets(first, second) => {
-            fields::put(out, [first, second]);
-            0
-        }
-        PairAnswer::Refused(refusal) => refusal.0,
-    }
+    put_answer(out, vti.to_bytes())
 }
 
 pub fn gg_read_i16(octets: &[u8]) -> i16 {

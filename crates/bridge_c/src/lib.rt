@@ -1,5 +1,5 @@
 // What host/ links of `bridge`: each of its functions as a C function of the same name. A slice goes over as its address and
-// its length. Neither side promises anything in a clause.
+// its length. Neither side promises anything in a clause. Kept one for each type: C calls them by name.
 #![tactic(auto)]
 
 use bridge::{asdus, walks};

@@ -1,14 +1,8 @@
 // What a call on a link told, behind the link's own numbers: how many octets it wrote, whether the window is full, and
 // whether an ASDU came.
 use crate::cells::InCells;
-use link::answers::{Called, Done, LinkAnswer};
+use link::answers::{Called, Done};
 use link_state::Link;
-
-pub const WRITTEN: usize = 71;
-
-pub const FULL: usize = 72;
-
-pub const CAME: usize = 73;
 
 pub fn put(list: &mut [u64], link: Link, done: Done) {
     let mut rest = list;
@@ -21,18 +15,18 @@ pub fn put(list: &mut [u64], link: Link, done: Done) {
 pub fn put_called(list: &mut [u64], called: Called) -> u32 {
     let link = called.link;
     match called.answer {
-        LinkAnswer::Done(done) => {
+        Ok(done) => {
             put(list, link, done);
             0
         }
-        LinkAnswer::Refused(refusal) => {
+        Err(refusal) => {
             let nothing = Done {
                 written: 0,
                 full: link.state.settings.k <= link.state.window.held,
                 came: false,
             };
             put(list, link, nothing);
-            laws::wide(refusal.0)
+            refusal as u32
         }
     }
 }

@@ -1,46 +1,10 @@
 // A link as a list of numbers: the ring of send times, the lengths of what waits, and then a number for each field, in the
 // order of the records of `link_state`. What a list has no room for is not put, and a number past its end is taken as 0.
 use apdu::frame::{ReceiveNumber, SendNumber};
-use elements::refusals::Refusal;
 use link_state::{Link, Queue, Receive, Settings, State, Status, Timers, Window};
 
-// Where the list has what the tests look at or set. How many ASDUs wait:
-pub const COUNT: usize = 49;
-
-pub const K: usize = 50;
-
-pub const W: usize = 51;
-
-pub const P: usize = 52;
-
-pub const T1: usize = 53;
-
-pub const T2: usize = 54;
-
-pub const T3: usize = 55;
-
-// How many frames are outstanding.
-pub const HELD: usize = 57;
-
-pub const CLOSED: usize = 68;
-
-pub const REASON: usize = 69;
-
-pub fn cell(cells: &[u64], at: usize) -> u64 {
-    cells.get(at).copied().unwrap_or(0)
-}
-
-pub fn put_cell(cells: &mut [u64], at: usize, n: u64) {
-    if let Some(cell) = cells.get_mut(at) {
-        *cell = n;
-    }
-}
-
-pub fn put_mark(cells: &mut [u64], at: usize, mark: bool) {
-    put_cell(cells, at, u64::from(mark));
-}
-
-// A value whose numbers are put at the start of a list and taken from its start; the list goes on behind them.
+// A value whose numbers are put at the start of a list and taken from its start; the list goes on behind them. Kept apart
+// from `Listed` of bridge_records, whose list is octets: a number of a link is one of the list, whatever its type.
 pub trait InCells: Copy {
     fn put(self, cells: &mut &mut [u64]);
 
@@ -112,8 +76,7 @@ impl<C: InCells, const N: usize> InCells for [C; N] {
     }
 }
 
-// Whether it is set, and when it is due.
-// A deadline takes two: whether it is set, and when it is due.
+// A deadline takes two: whether it is set, and when it is due, 0 where it is not.
 impl InCells for Option<u64> {
     fn put(self, cells: &mut &mut [u64]) {
         self.is_some().put(cells);
@@ -123,7 +86,7 @@ impl InCells for Option<u64> {
     fn take(cells: &mut &[u64]) -> Option<u64> {
         let set = bool::take(cells);
         let at = u64::take(cells);
-        if set { Some(at) } else { None }
+        set.then_some(at)
     }
 }
 
@@ -216,13 +179,13 @@ impl InCells for Timers {
 impl InCells for Status {
     fn put(self, cells: &mut &mut [u64]) {
         self.closed.put(cells);
-        self.reason.0.put(cells);
+        self.reason.put(cells);
     }
 
     fn take(cells: &mut &[u64]) -> Status {
         Status {
             closed: InCells::take(cells),
-            reason: Refusal(InCells::take(cells)),
+            reason: InCells::take(cells),
         }
     }
 }
@@ -263,11 +226,6 @@ impl InCells for Link {
             state: InCells::take(cells),
         }
     }
-}
-
-pub fn settings_in(cells: &[u64]) -> Settings {
-    let mut rest = cells.get(K..).unwrap_or(&[]);
-    Settings::take(&mut rest)
 }
 
 pub fn link_in(cells: &[u64]) -> Link {

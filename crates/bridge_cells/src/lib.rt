@@ -1,4 +1,4 @@
-// What `bridge_link` and `drive` have of a link: its record as a list of numbers, and the answer of a call behind it.
+// What `bridge_link` has of a link: its record as a list of numbers, and the answer of a call behind it.
 #![tactic(auto)]
 
 pub mod called;

@@ -1,8 +1,9 @@
 // A frame as the list of its fields: kind, send number (2), receive number (2), an octet for each flag of a U frame.
 // What a kind does not have is 0.
-use apdu::frame::{ReceiveNumber, SendNumber, UFrame};
+use apdu::frame::{Frame, UFrame};
 use bridge_records::fields;
 
+// Kept as numbers: C sees them.
 const I: u8 = 1;
 
 const S: u8 = 2;
@@ -13,24 +14,23 @@ fn put(list: &mut [u8], kind: u8, numbers: [u16; 2], flags: [bool; 6]) {
     fields::put(list, (kind, (numbers, flags)));
 }
 
-pub fn put_i(list: &mut [u8], send: SendNumber, receive: ReceiveNumber) {
-    put(list, I, [send.0, receive.0], [false; 6]);
+pub fn put_frame(list: &mut [u8], frame: Frame) {
+    match frame {
+        Frame::I(send, receive) => put(list, I, [send.0, receive.0], [false; 6]),
+        Frame::S(receive) => put(list, S, [0, receive.0], [false; 6]),
+        Frame::U(u) => put(list, U, [0, 0], flags_of(u)),
+    }
 }
 
-pub fn put_s(list: &mut [u8], receive: ReceiveNumber) {
-    put(list, S, [0, receive.0], [false; 6]);
-}
-
-pub fn put_u(list: &mut [u8], u: UFrame) {
-    let flags = [
+fn flags_of(u: UFrame) -> [bool; 6] {
+    [
         u.start_act,
         u.start_con,
         u.stop_act,
         u.stop_con,
         u.test_act,
         u.test_con,
-    ];
-    put(list, U, [0, 0], flags);
+    ]
 }
 
 // From the six flags alone.

@@ -4,23 +4,18 @@
 
 mod fields;
 
-use apdu::frame::{FrameAnswer, ReceiveNumber, SendNumber};
+use apdu::frame::{Frame, ReceiveNumber, SendNumber};
 use apdu::{reading, writing};
-use asdu::WriteAnswer;
 use bridge_records::{answers, records};
+use elements::refusals::Refusal;
 
 // The fields are written as far as `fields` reaches, and not beside a refusal.
 pub fn gg_frame_read(f: &[u8], fields: &mut [u8]) -> u32 {
     let answer = reading::read_frame(f);
-    match answer {
-        FrameAnswer::I(send, receive) => fields::put_i(fields, send, receive),
-        FrameAnswer::S(receive) => fields::put_s(fields, receive),
-        FrameAnswer::U(u) => fields::put_u(fields, u),
-        FrameAnswer::Refused(refusal) => {
-            return laws::wide(refusal.0);
-        }
+    if let Ok(frame) = answer {
+        fields::put_frame(fields, frame);
     }
-    0
+    answers::number(answer)
 }
 
 // How many octets the ASDU of the frame has. They are copied as far as `out` reaches.
@@ -44,7 +39,7 @@ pub fn gg_frame_write_u(flags: &[u8], out: &mut [u8]) -> u32 {
 
 pub fn gg_frame_write_i(send: u16, receive: u16, record: &[u8], out: &mut [u8]) -> u32 {
     let asdu = records::record_in(record);
-    answers::length(writing::write_i(SendNumber(send), ReceiveNumber(receive), asdu, out))
+    answers::length(writing::write_i(SendNumber(send), ReceiveNumber(receive), &asdu, out))
 }
 
 pub fn gg_frame_write_i_octets(send: u16, receive: u16, asdu: &[u8], out: &mut [u8]) -> u32 {
@@ -52,23 +47,21 @@ pub fn gg_frame_write_i_octets(send: u16, receive: u16, asdu: &[u8], out: &mut [
 }
 
 // The ASDU of an I frame that reads does too.
-fn write_i_again(
-    f: &[u8],
-    send: SendNumber,
-    receive: ReceiveNumber,
-    out: &mut [u8],
-) -> WriteAnswer {
-    let read = asdu_read::read_asdu(reading::asdu_of(f));
-    let asdu = read.asdu;
-    writing::write_i(send, receive, asdu, out)
+fn write_again(f: &[u8], frame: Frame, out: &mut [u8]) -> Result<usize, Refusal> {
+    match frame {
+        Frame::I(send, receive) => {
+            let asdu = asdu_read::read_record(reading::asdu_of(f));
+            writing::write_i(send, receive, &asdu, out)
+        }
+        Frame::S(receive) => writing::write_s(receive, out),
+        Frame::U(u) => writing::write_u(u, out),
+    }
 }
 
 pub fn gg_frame_rewrite(f: &[u8], out: &mut [u8]) -> u32 {
     let answer = reading::read_frame(f);
     match answer {
-        FrameAnswer::I(send, receive) => answers::length(write_i_again(f, send, receive, out)),
-        FrameAnswer::S(receive) => answers::length(writing::write_s(receive, out)),
-        FrameAnswer::U(u) => answers::length(writing::write_u(u, out)),
-        FrameAnswer::Refused(refusal) => answers::READING_REFUSED + laws::wide(refusal.0),
+        Ok(frame) => answers::length(write_again(f, frame, out)),
+        Err(_) => answers::READING_REFUSED + answers::number(answer),
     }
 }

@@ -8,14 +8,17 @@ use link_state::opening;
 
 // With the settings that the list has.
 pub fn gg_link_open(list: &mut [u64], moment: u64) -> u32 {
-    let opened = opening::open(cells::settings_in(list), moment);
+    let opened = opening::open(cells::link_in(list).state.settings, moment);
     let nothing = Done {
         written: 0,
         full: false,
         came: false,
     };
     called::put(list, opened.link, nothing);
-    laws::wide(opened.answer.refusal().0)
+    match opened.answer {
+        Ok(()) => 0,
+        Err(refusal) => refusal as u32,
+    }
 }
 
 pub fn gg_link_receive(

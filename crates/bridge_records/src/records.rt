@@ -3,9 +3,9 @@
 // to the end. Each is put as far as the list reaches, and 16 octets of 0 are an object that is blank.
 use crate::fields::Listed;
 use asdu::Asdu;
-use objects::kinds::{Kind, KindAnswer};
+use objects::kinds::Kind;
 use objects::values::Value;
-use objects::{Object, kinds, values};
+use objects::{Object, blank_object};
 
 const OBJECT_SIZE: usize = 16;
 
@@ -54,14 +54,14 @@ fn take_value(list: &mut &[u8], kind: Kind) -> Value {
 impl Listed for Object {
     fn put(self, list: &mut &mut [u8]) {
         self.address.put(list);
-        kinds::type_of(values::kind_of_value(self.value)).put(list);
+        u8::from(Kind::from(self.value)).put(list);
         put_value(list, self.value);
     }
 
     fn take(list: &mut &[u8]) -> Object {
         let address = Listed::take(list);
-        let KindAnswer::Carried(kind) = kinds::kind_of(Listed::take(list)) else {
-            return objects::blank_object();
+        let Ok(kind) = Kind::try_from(u8::take(list)) else {
+            return blank_object();
         };
         Object {
             address,
@@ -90,7 +90,7 @@ pub fn record_in(s: &[u8]) -> Asdu {
     let [cause, originator] = <[u8; 2]>::take(&mut rest);
     let address = Listed::take(&mut rest);
     let count = u8::take(&mut rest);
-    let mut objects = [objects::blank_object(); 127];
+    let mut objects = [blank_object(); 127];
     for (object, mut place) in objects.iter_mut().zip(rest.chunks(OBJECT_SIZE)) {
         *object = Listed::take(&mut place);
     }

@@ -22,162 +22,105 @@
 // and have 64 bits. Any other line is `bad`.
 #![tactic(auto)]
 
-mod links;
-
-use drive_link::commands;
-use drive_link::commands::Command;
+use drive_link::Station;
 use std::io;
 use std::io::Read;
-use test_text::{answers, text};
+use test_text::LINE_SIZE;
+use test_text::wrong::Wrong;
 
-// The longest answer, of a link that hands out 16 full frames, has under 8,300 bytes.
-const ANSWER_SIZE: usize = 8320;
-
-#[derive(Clone, Copy)]
-struct Input {
-    going: bool,
-    // Bytes of a line whose end has not come.
-    held: usize,
+// The bytes of a line that have come. An array and a length: the program takes no memory but its own.
+#[derive(Drop)]
+struct Line {
+    bytes: [u8; LINE_SIZE],
+    len: usize,
 }
 
-// A command and what it is given, with one space between.
-fn answer(out: &mut [u8], line: &[u8], list: &mut [u64], pool: &mut [u8]) -> usize {
-    let space = text::find(line, b' ');
-    let name = text::part_to(line, space);
-    let given = laws::part_from(line, std::num::wrapping_add_usize(space, 1));
-    let command = commands::command_of(name);
-    match command {
-        Command::Open => links::put_opened(out, given, list),
-        Command::Receive => links::put_received(out, given, list, pool),
-        Command::Send => links::put_sent(out, given, list, pool),
-        Command::Timed(which) => links::put_timed(out, which, given, list, pool),
-        Command::TopUp => drive_streams::put_topped(out, given),
-        Command::Pick => drive_streams::put_picked(out, given),
-        Command::Other => drive_frames::put_answer(out, name, given),
+impl Line {
+    fn new() -> Line {
+        Line {
+            bytes: [0; LINE_SIZE],
+            len: 0,
+        }
+    }
+
+    // A byte that there is no room for counts.
+    fn push(&mut self, byte: u8) {
+        if let Some(place) = self.bytes.get_mut(self.len) {
+            *place = byte;
+        }
+        self.len = self.len.saturating_add(1);
+    }
+
+    // None where it is too long, or no text.
+    fn text(&self) -> Option<&str> {
+        str::from_utf8(self.bytes.get(..self.len)?).ok()
     }
 }
 
-// A line that is longer than its buffer is bad.
-fn answer_held(
-    out: &mut [u8],
-    line: &[u8],
-    held: usize,
-    list: &mut [u64],
-    pool: &mut [u8],
-) -> usize {
-    if line.len() < held {
-        return answers::put_bad(out);
-    }
-    answer(out, text::part_to(line, held), list, pool)
+#[derive(Drop)]
+struct Bench {
+    line: Line,
+    station: Station,
 }
 
-fn run(
-    rt: &impl Print,
-    line: &[u8],
-    held: usize,
-    out: &mut [u8],
-    list: &mut [u64],
-    pool: &mut [u8],
-) -> io::Result<()> {
-    let end = answer_held(out, line, held, list, pool);
-    let end = text::put_byte(out, end, b'\n');
-    rt.write_all(text::part_to(out, end))
-}
-
-// A line's end has it answered; any other byte is held. The result is how many bytes are held then.
-fn take_byte(
-    rt: &impl Print,
-    byte: u8,
-    line: &mut [u8],
-    held: usize,
-    out: &mut [u8],
-    list: &mut [u64],
-    pool: &mut [u8],
-) -> io::Result<usize> {
-    if byte == b'\n' {
-        run(rt, line, held, out, list, pool)?;
-        return Ok(0);
+impl Bench {
+    // A command and what it is given, with one space between.
+    fn run(&mut self, rt: &impl Print) -> Result<(), Wrong> {
+        let text = self.line.text().ok_or(Wrong::Bad)?;
+        let (name, given) = text.split_once(' ').unwrap_or((text, ""));
+        match name {
+            "open" => self.station.open(rt, given),
+            "recv" => self.station.receive(rt, given),
+            "send" => self.station.send(rt, given),
+            "stop" => self.station.at(rt, link_time::stop, given),
+            "test" => self.station.at(rt, link_time::test, given),
+            "tick" => self.station.at(rt, link_time::tick, given),
+            "topup" => drive_streams::top_up(rt, given),
+            "pick" => drive_streams::pick(rt, given),
+            _ => drive_frames::answer(rt, name, given),
+        }
     }
-    Ok(text::put_byte(line, held, byte))
-}
 
-fn take_bytes(
-    rt: &impl Print,
-    bytes: &[u8],
-    line: &mut [u8],
-    held: usize,
-    out: &mut [u8],
-    list: &mut [u64],
-    pool: &mut [u8],
-) -> io::Result<usize> {
-    let mut holding = held;
-    let mut i: usize = 0;
-    while i < bytes.len() {
-        holding = take_byte(rt, bytes[i], line, holding, out, list, pool)?;
-        i += 1;
+    fn answer(&mut self, rt: &impl Print) -> io::Result<()> {
+        let ended = self.run(rt);
+        self.line.len = 0;
+        match ended {
+            Ok(()) => Ok(()),
+            Err(Wrong::Bad) => println!(rt; "bad"),
+            Err(Wrong::Refused(refusal)) => println!(rt; "refused {}", refusal.0),
+            Err(Wrong::Output(error)) => Err(error),
+        }
     }
-    Ok(holding)
-}
 
-// What has come so far, so that a line is answered before the next one is there.
-fn take_some(
-    rt: &impl Print,
-    commands: &mut impl Read,
-    line: &mut [u8],
-    input: Input,
-    out: &mut [u8],
-    list: &mut [u64],
-    pool: &mut [u8],
-) -> io::Result<Input> {
-    let mut bytes = [0u8; 4096];
-    let n = commands.read(&mut bytes)?;
-    if n == 0 {
-        return Ok(Input {
-            going: false,
-            held: input.held,
-        });
+    // A line's end has it answered; any other byte is held.
+    fn take(&mut self, rt: &impl Print, byte: u8) -> io::Result<()> {
+        if byte == b'\n' {
+            return self.answer(rt);
+        }
+        self.line.push(byte);
+        Ok(())
     }
-    let held = take_bytes(rt, &bytes[..n], line, input.held, out, list, pool)?;
-    Ok(Input { going: true, held })
-}
-
-// A proved loop ends: this one by a count that no input uses up.
-fn take_all(
-    rt: &impl Print,
-    commands: &mut impl Read,
-    line: &mut [u8],
-    out: &mut [u8],
-    list: &mut [u64],
-    pool: &mut [u8],
-) -> io::Result<usize> {
-    let mut input = Input {
-        going: true,
-        held: 0,
-    };
-    let mut turns = u64::MAX;
-    while turns > 0 && input.going {
-        input = take_some(rt, commands, line, input, out, list, pool)?;
-        turns -= 1;
-    }
-    Ok(input.held)
 }
 
 fn main(rt: HostRuntime) -> io::Result<()> {
+    let mut bench = Bench {
+        line: Line::new(),
+        station: Station::new(),
+    };
     let mut commands = rt.stdin();
-    let mut line = [0u8; test_text::LINE_SIZE];
-    let mut out = [0u8; ANSWER_SIZE];
-    let mut list = [0u64; drive_link::LIST_SIZE];
-    let mut pool = [0u8; links::POOL_SIZE];
-    let held = take_all(
-        &rt,
-        &mut commands,
-        &mut line,
-        &mut out,
-        &mut list,
-        &mut pool,
-    )?;
-    if 0 < held {
-        run(&rt, &line, held, &mut out, &mut list, &mut pool)?;
+    let mut bytes = [0; 4096];
+    // A line is answered before the next one is there. A proved loop ends: no input uses up this one's turns.
+    for _ in 0..u64::MAX {
+        let n = commands.read(&mut bytes)?;
+        if n == 0 {
+            break;
+        }
+        for byte in &bytes[..n] {
+            bench.take(&rt, *byte)?;
+        }
+    }
+    if bench.line.len > 0 {
+        bench.answer(&rt)?;
     }
     Ok(())
 }

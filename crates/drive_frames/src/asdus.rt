@@ -1,58 +1,51 @@
-// The commands on ASDUs: `asdu`, `plainasdu` and `rewriteasdu`.
-use crate::written;
-use asdu::{Answer, Asdu, header};
-use bridge::asdus;
-use test_text::{answers, text};
+// The commands `asdu` and `rewriteasdu`.
+use asdu::{Answer, Asdu, WriteAnswer, header};
+use drive_values::Shown;
+use std::fmt;
+use test_text::octets::Hex;
+use test_text::wrong::Wrong;
 
-fn put_type_and_marks(out: &mut [u8], asdu: Asdu) -> usize {
-    let end = text::put_number(out, 0, asdu.type_id as u64);
-    let end = text::put_mark(out, end, b" ", asdu.sequence);
-    let end = text::put_mark(out, end, b" ", asdu.test);
-    text::put_mark(out, end, b" ", asdu.negative)
-}
+// The header, and each object after it.
+#[derive(Clone, Copy)]
+struct Record<'a>(&'a Asdu);
 
-fn put_cause_and_originator(out: &mut [u8], at: usize, asdu: Asdu) -> usize {
-    let end = text::put_field(out, at, b" ", asdu.cause as u64);
-    text::put_field(out, end, b" ", asdu.originator as u64)
-}
-
-fn put_header(out: &mut [u8], asdu: Asdu) -> usize {
-    let end = put_type_and_marks(out, asdu);
-    let end = put_cause_and_originator(out, end, asdu);
-    let end = text::put_field(out, end, b" ", asdu.address as u64);
-    text::put_field(out, end, b" ", asdu.count as u64)
-}
-
-fn put_objects(out: &mut [u8], at: usize, asdu: Asdu) -> usize {
-    let n = asdu.count;
-    let mut end = at;
-    let mut i: usize = 0;
-    while i < header::MAX_OBJECTS && i < n {
-        end = drive_values::put_object(out, end, asdu.objects[i]);
-        i += 1;
-    }
-    end
-}
-
-pub fn put_reading(out: &mut [u8], given: &[u8]) -> usize {
-    let read = asdu_read::read_asdu(given);
-    let asdu = read.asdu;
-    let answer = read.answer;
-    match answer {
-        Answer::Accepted => {
-            let end = put_header(out, asdu);
-            put_objects(out, end, asdu)
+impl<'a> fmt::Display for Record<'a> {
+    fn fmt<W: fmt::Write>(&self, f: &mut fmt::Formatter<W>) -> fmt::Result {
+        let asdu = self.0;
+        let sequence = u8::from(asdu.sequence);
+        let test = u8::from(asdu.test);
+        let negative = u8::from(asdu.negative);
+        write!(f, "{} {sequence} {test} {negative}", asdu.type_id)?;
+        write!(
+            f,
+            " {} {} {} {}",
+            asdu.cause, asdu.originator, asdu.address, asdu.count
+        )?;
+        for object in asdu.objects.iter().take(asdu.count) {
+            write!(f, "{}", Shown(*object))?;
         }
-        Answer::Refused(refusal) => answers::put_refused(out, refusal.0 as u64),
+        Ok(())
     }
 }
 
-pub fn put_plain(out: &mut [u8], given: &[u8]) -> usize {
-    written::put_plain(out, asdus::gg_asdu_plain(given))
+pub fn show(rt: &impl Print, given: &[u8]) -> Result<(), Wrong> {
+    let read = asdu_read::read_asdu(given);
+    if let Answer::Refused(refusal) = read.answer {
+        return Err(Wrong::Refused(refusal));
+    }
+    println!(rt; "{}", Record(&read.asdu))?;
+    Ok(())
 }
 
-pub fn put_rewritten(out: &mut [u8], given: &[u8]) -> usize {
-    let mut octets = [0u8; header::MAX_SIZE];
-    let number = asdus::gg_asdu_rewrite(given, &mut octets);
-    written::put_written(out, number, &octets)
+pub fn rewrite(rt: &impl Print, given: &[u8]) -> Result<(), Wrong> {
+    let read = asdu_read::read_asdu(given);
+    if let Answer::Refused(refusal) = read.answer {
+        return Err(Wrong::Refused(refusal));
+    }
+    let mut out = [0; header::MAX_SIZE];
+    match asdu_write::write_asdu(read.asdu, &mut out) {
+        WriteAnswer::Octets(n) => println!(rt; "{}", Hex(&out[..n.min(header::MAX_SIZE)]))?,
+        WriteAnswer::Refused(refusal) => return Err(Wrong::Refused(refusal)),
+    }
+    Ok(())
 }

@@ -1,44 +1,48 @@
-// The commands on frames: `frame`, `plain` and `rewrite`.
-use crate::written;
-use apdu::frame::{FrameAnswer, ReceiveNumber, SendNumber, UFrame};
-use apdu::reading;
-use test_text::{answers, hex, text};
+// The commands `frame` and `rewrite`.
+use apdu::frame::FrameAnswer;
+use apdu::{reading, writing};
+use asdu::WriteAnswer;
+use test_text::octets::Hex;
+use test_text::wrong::Wrong;
 
 // Octets of the longest frame.
 const MAX_SIZE: usize = 255;
 
-fn put_i(out: &mut [u8], send: SendNumber, receive: ReceiveNumber, asdu: &[u8]) -> usize {
-    let end = text::put_field(out, 0, b"I ", send.0 as u64);
-    let end = text::put_field(out, end, b" ", receive.0 as u64);
-    let end = text::put_byte(out, end, b' ');
-    hex::put_octets(out, end, asdu)
+pub fn show(rt: &impl Print, given: &[u8]) -> Result<(), Wrong> {
+    match reading::read_frame(given) {
+        FrameAnswer::I(send, receive) => {
+            println!(rt;
+                "I {} {} {}",
+                send.0,
+                receive.0,
+                Hex(reading::asdu_of(given))
+            )?;
+        }
+        FrameAnswer::S(receive) => println!(rt; "S {}", receive.0)?,
+        FrameAnswer::U(u) => println!(rt; "U {:02x}", u.to_byte())?,
+        FrameAnswer::Refused(refusal) => return Err(Wrong::Refused(refusal)),
+    }
+    Ok(())
 }
 
-fn put_s(out: &mut [u8], receive: ReceiveNumber) -> usize {
-    text::put_field(out, 0, b"S ", receive.0 as u64)
-}
-
-fn put_u(out: &mut [u8], u: UFrame) -> usize {
-    let end = text::put_text(out, 0, b"U ");
-    hex::put_octet(out, end, u.to_byte())
-}
-
-pub fn put_reading(out: &mut [u8], given: &[u8]) -> usize {
-    let answer = reading::read_frame(given);
-    match answer {
-        FrameAnswer::I(send, receive) => put_i(out, send, receive, reading::asdu_of(given)),
-        FrameAnswer::S(receive) => put_s(out, receive),
-        FrameAnswer::U(u) => put_u(out, u),
-        FrameAnswer::Refused(refusal) => answers::put_refused(out, refusal.0 as u64),
+// The ASDU of an I frame that reads does too.
+fn written(given: &[u8], out: &mut [u8]) -> WriteAnswer {
+    match reading::read_frame(given) {
+        FrameAnswer::I(send, receive) => {
+            let read = asdu_read::read_asdu(reading::asdu_of(given));
+            writing::write_i(send, receive, read.asdu, out)
+        }
+        FrameAnswer::S(receive) => writing::write_s(receive, out),
+        FrameAnswer::U(u) => writing::write_u(u, out),
+        FrameAnswer::Refused(refusal) => WriteAnswer::Refused(refusal),
     }
 }
 
-pub fn put_plain(out: &mut [u8], given: &[u8]) -> usize {
-    written::put_plain(out, bridge_frames::gg_frame_plain(given))
-}
-
-pub fn put_rewritten(out: &mut [u8], given: &[u8]) -> usize {
-    let mut octets = [0u8; MAX_SIZE];
-    let number = bridge_frames::gg_frame_rewrite(given, &mut octets);
-    written::put_written(out, number, &octets)
+pub fn rewrite(rt: &impl Print, given: &[u8]) -> Result<(), Wrong> {
+    let mut out = [0; MAX_SIZE];
+    match written(given, &mut out) {
+        WriteAnswer::Octets(n) => println!(rt; "{}", Hex(&out[..n.min(MAX_SIZE)]))?,
+        WriteAnswer::Refused(refusal) => return Err(Wrong::Refused(refusal)),
+    }
+    Ok(())
 }

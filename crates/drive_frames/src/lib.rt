@@ -1,41 +1,34 @@
-// The commands of `drive` on the octets of a frame or an ASDU, answered in text at the start of a lent buffer.
+// The commands of `drive` on the octets of a frame or an ASDU.
 #![tactic(auto)]
 
 mod asdus;
 mod frames;
-mod written;
 
-use test_text::hex::HexAnswer;
-use test_text::{answers, hex, text};
+use apdu::reading;
+use asdu::PlainAnswer;
+use test_text::wrong::Wrong;
+use test_text::{OCTETS_SIZE, octets};
 
-fn answer_octets(out: &mut [u8], command: &[u8], given: &[u8]) -> usize {
-    if check::same(command, b"frame") {
-        return frames::put_reading(out, given);
+fn show_form(rt: &impl Print, answer: PlainAnswer) -> Result<(), Wrong> {
+    match answer {
+        PlainAnswer::Plain => println!(rt; "plain")?,
+        PlainAnswer::Reserved => println!(rt; "reserved")?,
+        PlainAnswer::Refused(refusal) => return Err(Wrong::Refused(refusal)),
     }
-    if check::same(command, b"plain") {
-        return frames::put_plain(out, given);
-    }
-    if check::same(command, b"rewrite") {
-        return frames::put_rewritten(out, given);
-    }
-    if check::same(command, b"asdu") {
-        return asdus::put_reading(out, given);
-    }
-    if check::same(command, b"plainasdu") {
-        return asdus::put_plain(out, given);
-    }
-    if check::same(command, b"rewriteasdu") {
-        return asdus::put_rewritten(out, given);
-    }
-    answers::put_bad(out)
+    Ok(())
 }
 
-// A command, and its octets as text.
-pub fn put_answer(out: &mut [u8], command: &[u8], digits: &[u8]) -> usize {
-    let mut octets = [0u8; test_text::OCTETS_SIZE];
-    let taken = hex::take_octets(digits, &mut octets);
-    let HexAnswer::Octets(n) = taken else {
-        return answers::put_bad(out);
-    };
-    answer_octets(out, command, text::part_to(&octets, n))
+// A command by its name, and its octets as text.
+pub fn answer(rt: &impl Print, name: &str, digits: &str) -> Result<(), Wrong> {
+    let mut room = [0; OCTETS_SIZE];
+    let given = octets::take(digits, &mut room).ok_or(Wrong::Bad)?;
+    match name {
+        "frame" => frames::show(rt, given),
+        "plain" => show_form(rt, reading::plain_frame(given)),
+        "rewrite" => frames::rewrite(rt, given),
+        "asdu" => asdus::show(rt, given),
+        "plainasdu" => show_form(rt, asdu_plain::plain_asdu(given)),
+        "rewriteasdu" => asdus::rewrite(rt, given),
+        _ => Err(Wrong::Bad),
+    }
 }

@@ -1,11 +1,102 @@
-// Of the commands of `drive` on a link all but the calls: what they are, what they are given, and the text of the answers.
-// The link is the list of crates/bridge_cells, and one number more: whether it is open.
+// The commands of `drive` on a link: `open`, `recv`, `send`, `stop`, `test` and `tick`.
 #![tactic(auto)]
 
-pub mod commands;
-pub mod given;
-pub mod told;
+mod told;
 
-pub const LIST_SIZE: usize = 75;
+use link::answers::Called;
+use link_state::limits::{MIN_OUTPUT, MIN_POOL};
+use link_state::opening::OpenAnswer;
+use link_state::{Link, Settings, opening};
+use test_text::wrong::Wrong;
+use test_text::{OCTETS_SIZE, numbers, octets};
+use told::Told;
 
-const IS_THERE: usize = 74;
+// The link that was opened last, if that was not refused, and what its ASDUs wait in.
+#[derive(Drop)]
+pub struct Station {
+    link: Option<Link>,
+    pool: [u8; MIN_POOL],
+}
+
+// A number that is too great for its field reads as the field's greatest.
+fn settings_of(k: u64, w: u64, p: u64, times: [u64; 3]) -> Settings {
+    let [t1, t2, t3] = times;
+    Settings {
+        k: k as usize,
+        w: u16::try_from(w).unwrap_or(u16::MAX),
+        p: p as usize,
+        t1,
+        t2,
+        t3,
+    }
+}
+
+impl Station {
+    pub fn new() -> Station {
+        Station {
+            link: None,
+            pool: [0; MIN_POOL],
+        }
+    }
+
+    pub fn open(&mut self, rt: &impl Print, given: &str) -> Result<(), Wrong> {
+        let [k, w, p, t1, t2, t3, now] = numbers::take::<7>(given).ok_or(Wrong::Bad)?;
+        let opened = opening::open(settings_of(k, w, p, [t1, t2, t3]), now);
+        self.link = None;
+        if let OpenAnswer::Refused(refusal) = opened.answer {
+            return Err(Wrong::Refused(refusal));
+        }
+        self.link = Some(opened.link);
+        println!(rt; "ok")?;
+        Ok(())
+    }
+
+    // Octets, the mark "more to come" and a moment.
+    pub fn receive(&mut self, rt: &impl Print, given: &str) -> Result<(), Wrong> {
+        let link = self.link.ok_or(Wrong::Bad)?;
+        let (digits, rest) = given.split_once(' ').ok_or(Wrong::Bad)?;
+        let mut room = [0; OCTETS_SIZE];
+        let frame = octets::take(digits, &mut room).ok_or(Wrong::Bad)?;
+        let [more, now] = numbers::take::<2>(rest).ok_or(Wrong::Bad)?;
+        if more > 1 {
+            return Err(Wrong::Bad);
+        }
+        let mut out = [0; MIN_OUTPUT];
+        let called = link_receive::receive(link, &self.pool, &mut out, frame, more == 1, now);
+        self.tell(rt, called, &out)
+    }
+
+    // Octets and a moment.
+    pub fn send(&mut self, rt: &impl Print, given: &str) -> Result<(), Wrong> {
+        let link = self.link.ok_or(Wrong::Bad)?;
+        let (digits, rest) = given.split_once(' ').ok_or(Wrong::Bad)?;
+        let mut room = [0; OCTETS_SIZE];
+        let asdu = octets::take(digits, &mut room).ok_or(Wrong::Bad)?;
+        let [now] = numbers::take::<1>(rest).ok_or(Wrong::Bad)?;
+        let mut out = [0; MIN_OUTPUT];
+        let called = link_send::send(link, &mut self.pool, &mut out, asdu, now);
+        self.tell(rt, called, &out)
+    }
+
+    // An event that is told a moment alone.
+    pub fn at<E: FnOnce(Link, &[u8], &mut [u8], u64) -> Called>(
+        &mut self,
+        rt: &impl Print,
+        event: E,
+        given: &str,
+    ) -> Result<(), Wrong>
+        requires { E.IsAlwaysCallable event }
+    {
+        let link = self.link.ok_or(Wrong::Bad)?;
+        let [now] = numbers::take::<1>(given).ok_or(Wrong::Bad)?;
+        let mut out = [0; MIN_OUTPUT];
+        let called = event(link, &self.pool, &mut out, now);
+        self.tell(rt, called, &out)
+    }
+
+    fn tell(&mut self, rt: &impl Print, called: Called, out: &[u8]) -> Result<(), Wrong> {
+        self.link = Some(called.link);
+        println!(rt; "{}", Told { called, out })?;
+        Ok(())
+    }
+}

@@ -1,35 +1,61 @@
-// The answers, at the start of a lent buffer.
-use crate::IS_THERE;
-use bridge_cells::{called, cells};
-use test_text::{answers, hex, text};
+// What a call told: the number of the refusal (0 for none), what was written, and how the link stands after it.
+use link::answers::{Called, Done, LinkAnswer};
+use std::fmt;
+use test_text::octets::Hex;
 
-pub fn put_opened(out: &mut [u8], list: &mut [u64], refusal: u32) -> usize {
-    cells::put_mark(list, IS_THERE, refusal == 0);
-    if refusal == 0 {
-        return text::put_text(out, 0, b"ok");
+#[derive(Clone, Copy)]
+pub(crate) struct Told<'a> {
+    pub(crate) called: Called,
+    pub(crate) out: &'a [u8],
+}
+
+impl<'a> Told<'a> {
+    fn number(&self) -> u8 {
+        match self.called.answer {
+            LinkAnswer::Done(_) => 0,
+            LinkAnswer::Refused(refusal) => refusal.0,
+        }
     }
-    answers::put_refused(out, refusal as u64)
+
+    // Beside a refusal nothing was written and nothing came; the window is what it is.
+    fn done(&self) -> Done {
+        match self.called.answer {
+            LinkAnswer::Done(done) => done,
+            LinkAnswer::Refused(_) => {
+                let state = self.called.link.state;
+                Done {
+                    written: 0,
+                    full: state.settings.k <= state.window.held,
+                    came: false,
+                }
+            }
+        }
+    }
 }
 
-// How the link stands after a call.
-fn put_standing(out: &mut [u8], at: usize, list: &[u64]) -> usize {
-    let end = text::put_field(out, at, b" held=", cells::cell(list, cells::HELD));
-    let end = text::put_field(out, end, b" waiting=", cells::cell(list, cells::COUNT));
-    let end = text::put_field(out, end, b" closed=", cells::cell(list, cells::CLOSED));
-    text::put_field(out, end, b" reason=", cells::cell(list, cells::REASON))
-}
-
-// What a call told beside its number.
-fn put_told(out: &mut [u8], at: usize, written: &[u8], list: &[u64]) -> usize {
-    let n = cells::cell(list, called::WRITTEN) as usize;
-    let end = hex::put_octets(out, at, text::part_to(written, n));
-    let end = text::put_field(out, end, b" full=", cells::cell(list, called::FULL));
-    text::put_field(out, end, b" came=", cells::cell(list, called::CAME))
-}
-
-pub fn put_called(out: &mut [u8], refusal: u32, written: &[u8], list: &[u64]) -> usize {
-    let end = text::put_number(out, 0, refusal as u64);
-    let end = text::put_byte(out, end, b' ');
-    let end = put_told(out, end, written, list);
-    put_standing(out, end, list)
+impl<'a> fmt::Display for Told<'a> {
+    fn fmt<W: fmt::Write>(&self, f: &mut fmt::Formatter<W>) -> fmt::Result {
+        let done = self.done();
+        let written = done.written.min(self.out.len());
+        write!(f, "{} {}", self.number(), Hex(&self.out[..written]))?;
+        write!(
+            f,
+            " full={} came={}",
+            u8::from(done.full),
+            u8::from(done.came)
+        )?;
+        let state = self.called.link.state;
+        write!(
+            f,
+            " held={} waiting={}",
+            state.window.held, state.queue.count
+        )?;
+        let status = state.status;
+        write!(
+            f,
+            " closed={} reason={}",
+            u8::from(status.closed),
+            status.reason.0
+        )
+    }
 }

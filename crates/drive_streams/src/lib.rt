@@ -4,71 +4,51 @@
 use assembly::picking::PickAnswer;
 use assembly::topping::TopUpAnswer;
 use assembly::{picking, topping};
-use test_text::hex::HexAnswer;
-use test_text::{answers, hex, text};
+use test_text::wrong::Wrong;
+use test_text::{OCTETS_SIZE, octets};
 
 const CARRY_SIZE: usize = 255;
 
-#[derive(Clone, Copy)]
-enum PairAnswer {
-    Octets(usize, usize),
-    Bad,
+// Two texts with one space between: what the carry holds, and the chunk. The carry's room is larger than the carry: what is
+// held past its end counts, but is not there.
+fn take<'a>(
+    given: &str,
+    carry: &mut [u8; OCTETS_SIZE],
+    room: &'a mut [u8],
+) -> Option<(usize, &'a [u8])> {
+    let (first, second) = given.split_once(' ')?;
+    let held = octets::take(first, carry)?.len();
+    Some((held, octets::take(second, room)?))
 }
 
-// Two texts with one space between: what the carry holds, and the chunk.
-fn take_pair(texts: &[u8], held: &mut [u8], chunk: &mut [u8]) -> PairAnswer {
-    let space = text::find(texts, b' ');
-    let first = hex::take_octets(text::part_to(texts, space), held);
-    let HexAnswer::Octets(count) = first else {
-        return PairAnswer::Bad;
-    };
-    let rest = laws::part_from(texts, std::num::wrapping_add_usize(space, 1));
-    let second = hex::take_octets(rest, chunk);
-    let HexAnswer::Octets(n) = second else {
-        return PairAnswer::Bad;
-    };
-    PairAnswer::Octets(count, n)
+fn topped(carry: &mut [u8; OCTETS_SIZE], held: usize, chunk: &[u8]) -> TopUpAnswer {
+    topping::top_up(&mut carry[..CARRY_SIZE], held, chunk)
 }
 
-fn put_moved(out: &mut [u8], answer: TopUpAnswer) -> usize {
-    match answer {
-        TopUpAnswer::Moved(n) => text::put_field(out, 0, b"moved ", n as u64),
-        TopUpAnswer::Refused(refusal) => answers::put_refused(out, refusal.0 as u64),
+fn which(carry: &[u8; OCTETS_SIZE], held: usize, chunk: &[u8]) -> PickAnswer {
+    picking::which(&carry[..CARRY_SIZE], held, chunk)
+}
+
+pub fn top_up(rt: &impl Print, given: &str) -> Result<(), Wrong> {
+    let mut carry = [0; OCTETS_SIZE];
+    let mut room = [0; OCTETS_SIZE];
+    let (held, chunk) = take(given, &mut carry, &mut room).ok_or(Wrong::Bad)?;
+    match topped(&mut carry, held, chunk) {
+        TopUpAnswer::Moved(n) => println!(rt; "moved {n}")?,
+        TopUpAnswer::Refused(refusal) => return Err(Wrong::Refused(refusal)),
     }
+    Ok(())
 }
 
-fn put_which(out: &mut [u8], answer: PickAnswer) -> usize {
-    match answer {
-        PickAnswer::Carry(n) => text::put_field(out, 0, b"carry ", n as u64),
-        PickAnswer::Chunk(n) => text::put_field(out, 0, b"chunk ", n as u64),
-        PickAnswer::More => text::put_text(out, 0, b"more"),
-        PickAnswer::Refused(refusal) => answers::put_refused(out, refusal.0 as u64),
+pub fn pick(rt: &impl Print, given: &str) -> Result<(), Wrong> {
+    let mut carry = [0; OCTETS_SIZE];
+    let mut room = [0; OCTETS_SIZE];
+    let (held, chunk) = take(given, &mut carry, &mut room).ok_or(Wrong::Bad)?;
+    match which(&carry, held, chunk) {
+        PickAnswer::Carry(n) => println!(rt; "carry {n}")?,
+        PickAnswer::Chunk(n) => println!(rt; "chunk {n}")?,
+        PickAnswer::More => println!(rt; "more")?,
+        PickAnswer::Refused(refusal) => return Err(Wrong::Refused(refusal)),
     }
-}
-
-// What is held past the carry's end counts, but is not there.
-pub fn put_topped(out: &mut [u8], texts: &[u8]) -> usize {
-    let mut carry = [0u8; test_text::OCTETS_SIZE];
-    let mut chunk = [0u8; test_text::OCTETS_SIZE];
-    let given = take_pair(texts, &mut carry, &mut chunk);
-    let PairAnswer::Octets(held, n) = given else {
-        return answers::put_bad(out);
-    };
-    let answer = topping::top_up(&mut carry[0..CARRY_SIZE], held, text::part_to(&chunk, n));
-    put_moved(out, answer)
-}
-
-pub fn put_picked(out: &mut [u8], texts: &[u8]) -> usize {
-    let mut carry = [0u8; test_text::OCTETS_SIZE];
-    let mut chunk = [0u8; test_text::OCTETS_SIZE];
-    let given = take_pair(texts, &mut carry, &mut chunk);
-    let PairAnswer::Octets(held, n) = given else {
-        return answers::put_bad(out);
-    };
-    let answer = picking::which(
-        text::part_to(&carry, CARRY_SIZE),
-        held,
-        text::part_to(&chunk, n),
-    );
-    put_which(out, answer)
+    Ok(())
 }

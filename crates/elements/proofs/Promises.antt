@@ -15,15 +15,14 @@ use Rattle.laws.specs.Numbers.{le_of, le_octets, signed_of, bits_of}
 use Rattle.laws.proofs.Layouts.{fields_octet, fields_fit, writes_again, reserves, flag_num, num_flag, num_fits, kept_whole}
 use Rattle.laws.proofs.Numbers as numbers
 use Rattle.laws.specs.Choice.{pick}
-use Rattle.elements.specs.Refusals.{refusal, value_out_of_range, octet_number, octet_in, pair_number, pair_first, pair_second}
+use Rattle.elements.specs.Refusals.{refusal, value_out_of_range, answer_number, octet_in, pair_first, pair_second}
 use Rattle.elements.specs.Quality.{qds_layout, qds_of, qds_octet, seq_qd_layout, seq_qd_of, seq_qd_octet, seq_qd_answer}
 use Rattle.elements.specs.Points.{siq_layout, siq_of, siq_octet, spi_of, spi_bits, diq_layout, diq_of, diq_octet, dpi_of, dpi_bits}
 use Rattle.elements.specs.Steps.{vti_layout, vti_of, vti_octet}
 use Rattle.elements.specs.Causes.{coi_of, coi_answer}
 use Rattle.elements.specs.Promises.{Bitwise, Octetwise, StepPair, SignedOctets, OctetLevel}
-use Rattle.elements.specs.declared.refusals.OctetAnswer.{OctetAnswer}
-use Rattle.elements.specs.declared.refusals.OctetAnswer.TheVariants.{Octet, Refused}
-use Rattle.elements.specs.declared.refusals.PairAnswer.TheVariants as Pair
+use Rattle.std.specs.Prelude.{Result, Ok, Err}
+use Rattle.elements.specs.declared.refusals.Refusal.{Refusal}
 use Rattle.elements.specs.declared.quality_descriptors.Qds.{Qds}
 use Rattle.elements.specs.declared.quality_descriptors.SeqQd.{SeqQd}
 use Rattle.elements.specs.declared.information_elements.Spi.{Spi}
@@ -106,7 +105,7 @@ written : {R : Type 0} {l : Layout} {mask : ℕ} (of : ℕ → R) (octetOf : R �
     → Bitwise l mask
     → ((v : R) → of (octetOf v) ≡ v)
     → ((b : ℕ) → octetOf (of b) ≡ kept l b)
-    → Octetwise l mask of (λ v. Octet (octetOf v))
+    → Octetwise l mask of (λ v. Ok (octetOf v))
 written of octetOf bits back again = record { bits = bits; back = λ v e. back v; again = λ b h. (refl, again b) }
 
 pub qds_back : (q : Qds) → qds_of (qds_octet q) ≡ q
@@ -148,10 +147,11 @@ pub seq_qd_again : (b : ℕ) → seq_qd_octet (seq_qd_of b) ≡ kept seq_qd_layo
 seq_qd_again b = rw (flag_num 5 b, flag_num 6 b, flag_num 7 b)
 
 -- what a writer that may refuse with 15 has accepted, and what it has written
-abbrev answered : Bool → ℕ → OctetAnswer
-answered t x = pick t (Refused (refusal value_out_of_range)) (Octet x)
+abbrev answered : Bool → ℕ → Result ℕ Refusal
+answered t x = pick t (Err (refusal value_out_of_range)) (Ok x)
 
-accepted : (t : Bool) (x : ℕ) → octet_number (answered t x) ≡ 0 → (t ≡ false) × (octet_in (answered t x) ≡ x)
+accepted : (t : Bool) (x : ℕ) → answer_number (answered t x) ≡ 0 → (t ≡ false) × (octet_in (answered t x) ≡ x)
+unfolding refusal
 accepted true x e = absurd (omega arith)
 accepted false x e = (refl, refl)
 
@@ -169,13 +169,13 @@ coi_other : (n : ℕ) → 3 ≤ n → coi_of n ≡ Coi.Other n
 coi_other n h =
     rw (ne_eqb n 0 (λ e. omega arith), ne_eqb n 1 (λ e. omega arith), ne_eqb n 2 (λ e. omega arith))
 
-coi_back : (c : Coi) → octet_number (coi_answer c) ≡ 0 → coi_of (octet_in (coi_answer c)) ≡ c
+coi_back : (c : Coi) → answer_number (coi_answer c) ≡ 0 → coi_of (octet_in (coi_answer c)) ≡ c
 coi_back Coi.LocalPowerOn e = refl
 coi_back Coi.LocalManualReset e = refl
 coi_back Coi.RemoteReset e = refl
 coi_back (Coi.Other n) e = let a = accepted (ltb n 3) n e in ap coi_of a.1 ∙ coi_other n (ltb-false n 3 a.0)
 
-coi_again : (b : ℕ) → (octet_number (coi_answer (coi_of b)) ≡ 0) × (octet_in (coi_answer (coi_of b)) ≡ b)
+coi_again : (b : ℕ) → (answer_number (coi_answer (coi_of b)) ≡ 0) × (octet_in (coi_answer (coi_of b)) ≡ b)
 coi_again zero = (refl, refl)
 coi_again (suc zero) = (refl, refl)
 coi_again (suc (suc zero)) = (refl, refl)
@@ -195,8 +195,9 @@ vti_back v h =
     let value = ap (signed_of 7) f.0 ∙ numbers.signed_reads_back 7 (omega arith) v.value h in
     λ i. record { value = value i; transient = f.1 i; qds = qds_back v.qds i }
 
-pair_accepted : (t : Bool) (x y : ℕ) → let answer = pick t (Pair.Octets x y) (Pair.Refused (refusal value_out_of_range)) in
-    pair_number answer ≡ 0 → (t ≡ true) × (pair_first answer ≡ x) × (pair_second answer ≡ y)
+pair_accepted : (t : Bool) (x y : ℕ) → let answer = pick {A = Result (ℕ × ℕ) Refusal} t (Ok (x, y)) (Err (refusal value_out_of_range)) in
+    answer_number answer ≡ 0 → (t ≡ true) × (pair_first answer ≡ x) × (pair_second answer ≡ y)
+unfolding refusal
 pair_accepted false x y e = absurd (omega arith)
 pair_accepted true x y e = (refl, refl, refl)
 

@@ -1,20 +1,18 @@
 -- Demand 2 for octets: "What the writer accepts reads back as the same record. What the reader accepts and we write again
 -- differs only in the reserved bits 01 lists." The laws of `laws` say it once for every layout; here they are put to each
 -- octet. Accepted means that the answer's number is 0.
-use Rattle.std.specs.Prelude.{ℕ, ◌*◌, ◌-◌, ◌^◌, ◌<◌, ◌≤◌, ◌≡◌, List, ◌++◌, T, ℤ, length, take}
+use Rattle.std.specs.Prelude.{ℕ, ◌*◌, ◌-◌, ◌^◌, ◌<◌, ◌≤◌, ◌≡◌, List, ◌++◌, T, ℤ, length, take, Result, Ok}
 use Rattle.std.specs.Int.Signed.{mag}
 use Rattle.laws.specs.Choice.{pick}
 use Rattle.laws.specs.Bits.{Layout, field, kept, reserved, keeps, apart, whole}
 use Rattle.laws.specs.Lists.{Octets}
 use Rattle.laws.specs.Numbers.{le_of, le_octets, signed_of, bits_of}
-use Rattle.elements.specs.Refusals.{octet_number, octet_in, pair_number, pair_first, pair_second}
+use Rattle.elements.specs.Refusals.{answer_number, octet_in, pair_first, pair_second}
 use Rattle.elements.specs.Quality.{qds_layout, qds_of, qds_octet, seq_qd_layout, seq_qd_of, seq_qd_answer}
 use Rattle.elements.specs.Points.{siq_layout, siq_of, siq_octet, diq_layout, diq_of, diq_octet}
 use Rattle.elements.specs.Steps.{vti_layout, vti_of, vti_answer}
 use Rattle.elements.specs.Causes.{coi_of, coi_answer}
-use Rattle.elements.specs.declared.refusals.OctetAnswer.{OctetAnswer}
-use Rattle.elements.specs.declared.refusals.OctetAnswer.TheVariants.{Octet}
-use Rattle.elements.specs.declared.refusals.PairAnswer.{PairAnswer}
+use Rattle.elements.specs.declared.refusals.Refusal.{Refusal}
 use Rattle.elements.specs.declared.information_elements.Vti.{Vti}
 
 -- What a layout keeps and what it reserves, bit by bit; `mask` is document 01's, in which the kept bits are set.
@@ -26,21 +24,21 @@ pub record Bitwise (l : Layout) (mask : ℕ) : Type 0 where
 
 -- One octet that `of` reads and `answer` writes. Every octet is read, so `again` also says that the writer
 -- accepts what was read, and what it then writes.
-pub record Octetwise {R : Type 0} (l : Layout) (mask : ℕ) (of : ℕ → R) (answer : R → OctetAnswer) : Type 0 where
+pub record Octetwise {R : Type 0} (l : Layout) (mask : ℕ) (of : ℕ → R) (answer : R → Result ℕ Refusal) : Type 0 where
   pub bits : Bitwise l mask
-  pub back : (v : R) → octet_number (answer v) ≡ 0 → of (octet_in (answer v)) ≡ v
-  pub again : (b : ℕ) → b < 256 → (octet_number (answer (of b)) ≡ 0) × (octet_in (answer (of b)) ≡ kept l b)
+  pub back : (v : R) → answer_number (answer v) ≡ 0 → of (octet_in (answer v)) ≡ v
+  pub again : (b : ℕ) → b < 256 → (answer_number (answer (of b)) ≡ 0) × (octet_in (answer (of b)) ≡ kept l b)
 
 -- Two octets were written, and which.
-pub record WrittenPair (answer : PairAnswer) (a b : ℕ) : Type 0 where
-  pub accepted : pair_number answer ≡ 0
+pub record WrittenPair (answer : Result (ℕ × ℕ) Refusal) (a b : ℕ) : Type 0 where
+  pub accepted : answer_number answer ≡ 0
   pub first : pair_first answer ≡ a
   pub second : pair_second answer ≡ b
 
 -- VTI and its quality.
 pub record StepPair : Type 0 where
   pub step : Bitwise vti_layout 0xFF
-  pub back : (v : Vti) → pair_number (vti_answer v) ≡ 0 → vti_of (pair_first (vti_answer v)) (pair_second (vti_answer v)) ≡ v
+  pub back : (v : Vti) → answer_number (vti_answer v) ≡ 0 → vti_of (pair_first (vti_answer v)) (pair_second (vti_answer v)) ≡ v
   pub again : (a b : ℕ) → a < 256 → b < 256 → WrittenPair (vti_answer (vti_of a b)) (kept vti_layout a) (kept qds_layout b)
 
 -- A signed number of n octets, whatever follows it: mag z is z from 0 on, and -z - 1 below.
@@ -55,10 +53,10 @@ pub record PlainOctets (n : ℕ) : Type 0 where
 
 -- All octets and numbers of the carried types. The masks are document 01's.
 pub record OctetLevel : Type 0 where
-  pub qds : Octetwise qds_layout 0xF1 qds_of (λ q. Octet (qds_octet q))
+  pub qds : Octetwise qds_layout 0xF1 qds_of (λ q. Ok (qds_octet q))
   pub counter : Octetwise seq_qd_layout 0xFF seq_qd_of seq_qd_answer
-  pub siq : Octetwise siq_layout 0xF1 siq_of (λ q. Octet (siq_octet q))
-  pub diq : Octetwise diq_layout 0xF3 diq_of (λ q. Octet (diq_octet q))
+  pub siq : Octetwise siq_layout 0xF1 siq_of (λ q. Ok (siq_octet q))
+  pub diq : Octetwise diq_layout 0xF3 diq_of (λ q. Ok (diq_octet q))
   pub coi : Octetwise whole 0xFF coi_of coi_answer
   pub vti : StepPair
   pub i16 : SignedOctets 2

@@ -1,10 +1,9 @@
 -- IEC 60870-5-101: QDS, and the octet that follows a counter reading. Bit positions as in document 01, "Octets and types".
-use Rattle.std.specs.Prelude.{ℕ, [], ◌∷◌, ltb}
+use Rattle.std.specs.Prelude.{ℕ, [], ◌∷◌, ltb, Result, Ok, Err}
 use Rattle.laws.specs.Bits.{field, flag, num, Layout, ◌at◌, octet}
 use Rattle.laws.specs.Choice.{pick}
 use Rattle.elements.specs.Refusals.{refusal, value_out_of_range}
-use Rattle.elements.specs.declared.refusals.OctetAnswer.{OctetAnswer}
-use Rattle.elements.specs.declared.refusals.OctetAnswer.TheVariants.{Octet, Refused}
+use Rattle.elements.specs.declared.refusals.Refusal.{Refusal}
 use Rattle.elements.specs.declared.quality_descriptors.Qds.{Qds}
 use Rattle.elements.specs.declared.quality_descriptors.SeqQd.{SeqQd}
 
@@ -29,5 +28,5 @@ abbrev pub seq_qd_octet : SeqQd → ℕ
 seq_qd_octet q = octet seq_qd_layout (q.seq ∷ num q.cy ∷ num q.ca ∷ num q.iv ∷ [])
 
 -- seq is written in five bits: above 31 it is refused
-abbrev pub seq_qd_answer : SeqQd → OctetAnswer
-seq_qd_answer q = pick (ltb 31 q.seq) (Refused (refusal value_out_of_range)) (Octet (seq_qd_octet q))
+abbrev pub seq_qd_answer : SeqQd → Result ℕ Refusal
+seq_qd_answer q = pick (ltb 31 q.seq) (Err (refusal value_out_of_range)) (Ok (seq_qd_octet q))

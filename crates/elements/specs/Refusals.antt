@@ -1,35 +1,78 @@
--- The numbers of refusal, by the rows of document 01's table. 0 is no refusal.
-use Rattle.std.specs.Prelude.{ℕ}
+-- Why a call says no: the rows of document 01's table. A refusal has its row's number; 0 is no refusal.
+use Rattle.std.specs.Prelude.{ℕ, ◌-◌, List, [], ◌∷◌, get_or, eqb, Result, Ok, Err}
+use Rattle.std.specs.Result.{result_unwrap_or}
+use Rattle.laws.specs.Choice.{pick}
 use Rattle.elements.specs.declared.refusals.Refusal.{Refusal}
-use Rattle.elements.specs.declared.refusals.OctetAnswer.{OctetAnswer}
-use Rattle.elements.specs.declared.refusals.PairAnswer.{PairAnswer}
+use Rattle.elements.specs.declared.refusals.Refusal.TheVariants.{FrameTooShort, WrongStart, FrameTooLong, LengthMismatch, IWithoutAsdu, BadUControl, BadSControl, BadIControl, AsduTooShort, CauseNotListed, TypeNotCarried, LayoutMismatch, EmptySequence, WrongAddress, ValueOutOfRange, WrongKind, AsduTooLong, OutputTooShort, OutsideLimits, LinkClosed, ClockWentBack, ClockTooLate, LinkOutputTooShort, PoolTooShort, QueueFull, NotPlainForm, WrongReceiveNumber, WrongSendNumber, UNotAnswered, UTimedOut, ITimedOut, TooManyTests, BadCarry}
 
--- the code's refusal with this number
-abbrev pub refusal : ℕ → Refusal
-refusal n = record { 0 = n }
+-- a refusal's number
+abbrev pub number : Refusal → ℕ
+number FrameTooShort = 1
+number WrongStart = 2
+number FrameTooLong = 3
+number LengthMismatch = 4
+number IWithoutAsdu = 5
+number BadUControl = 6
+number BadSControl = 7
+number BadIControl = 8
+number AsduTooShort = 9
+number CauseNotListed = 10
+number TypeNotCarried = 11
+number LayoutMismatch = 12
+number EmptySequence = 13
+number WrongAddress = 14
+number ValueOutOfRange = 15
+number WrongKind = 16
+number AsduTooLong = 17
+number OutputTooShort = 18
+number OutsideLimits = 19
+number LinkClosed = 20
+number ClockWentBack = 21
+number ClockTooLate = 22
+number LinkOutputTooShort = 23
+number PoolTooShort = 24
+number QueueFull = 25
+number NotPlainForm = 26
+number WrongReceiveNumber = 27
+number WrongSendNumber = 28
+number UNotAnswered = 29
+number UTimedOut = 30
+number ITimedOut = 31
+number TooManyTests = 32
+number BadCarry = 33
 
--- an answer's number, 0 where the octets were written, and its octets, 0 where they were refused
-abbrev pub octet_number : OctetAnswer → ℕ
-octet_number (OctetAnswer.Octet b) = 0
-octet_number (OctetAnswer.Refused r) = r.0
+-- every refusal, by its number, and the one with number n, for n from 1 to 33
+abbrev pub refusals : List Refusal
+refusals =
+    FrameTooShort ∷ WrongStart ∷ FrameTooLong ∷ LengthMismatch ∷ IWithoutAsdu ∷ BadUControl ∷ BadSControl ∷
+    BadIControl ∷ AsduTooShort ∷ CauseNotListed ∷ TypeNotCarried ∷ LayoutMismatch ∷ EmptySequence ∷ WrongAddress ∷
+    ValueOutOfRange ∷ WrongKind ∷ AsduTooLong ∷ OutputTooShort ∷ OutsideLimits ∷ LinkClosed ∷ ClockWentBack ∷
+    ClockTooLate ∷ LinkOutputTooShort ∷ PoolTooShort ∷ QueueFull ∷ NotPlainForm ∷ WrongReceiveNumber ∷
+    WrongSendNumber ∷ UNotAnswered ∷ UTimedOut ∷ ITimedOut ∷ TooManyTests ∷ BadCarry ∷ []
 
-abbrev pub octet_in : OctetAnswer → ℕ
-octet_in (OctetAnswer.Octet b) = b
-octet_in (OctetAnswer.Refused r) = 0
+unfoldable pub refusal : ℕ → Refusal
+refusal n = get_or refusals (n - 1) BadCarry
 
-abbrev pub pair_number : PairAnswer → ℕ
-pair_number (PairAnswer.Octets a b) = 0
-pair_number (PairAnswer.Refused r) = r.0
+-- what a call answers: what it made where the refusal's number is 0, else the refusal
+abbrev pub answer : {A : Type 0} → ℕ → A → Result A Refusal
+answer n made = pick (eqb n 0) (Ok made) (Err (refusal n))
 
-abbrev pub pair_first : PairAnswer → ℕ
-pair_first (PairAnswer.Octets a b) = a
-pair_first (PairAnswer.Refused r) = 0
+-- an answer's number, 0 for what was made
+abbrev pub answer_number : {A : Type 0} → Result A Refusal → ℕ
+answer_number (Ok made) = 0
+answer_number (Err r) = number r
 
-abbrev pub pair_second : PairAnswer → ℕ
-pair_second (PairAnswer.Octets a b) = b
-pair_second (PairAnswer.Refused r) = 0
+-- the octet of an answer, and the two of one, 0 where they were refused
+abbrev pub octet_in : Result ℕ Refusal → ℕ
+octet_in a = result_unwrap_or a 0
 
--- the rows, named as the constants of `Refusal` in the code
+abbrev pub pair_first : Result (ℕ × ℕ) Refusal → ℕ
+pair_first a = (result_unwrap_or a (0, 0)).0
+
+abbrev pub pair_second : Result (ℕ × ℕ) Refusal → ℕ
+pair_second a = (result_unwrap_or a (0, 0)).1
+
+-- the rows by their names
 abbrev pub frame_too_short : ℕ
 frame_too_short = 1
 

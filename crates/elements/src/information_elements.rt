@@ -6,9 +6,9 @@ ghost use Rattle.elements.specs.Causes.{coi_of, coi_answer};
 
 use crate::numbers::Signed;
 use crate::quality_descriptors::Qds;
-use crate::refusals::{OctetAnswer, PairAnswer, Refusal};
+use crate::refusals::Refusal;
 
-#[derive(Clone, Copy)]
+#[derive(Clone, Copy, Debug, PartialEq, Eq)]
 pub enum Spi {
     Off,
     On,
@@ -35,7 +35,7 @@ impl Spi {
     }
 }
 
-#[derive(Clone, Copy)]
+#[derive(Clone, Copy, Debug, PartialEq, Eq)]
 pub struct Siq {
     pub iv: bool,
     pub nt: bool,
@@ -69,7 +69,7 @@ impl Siq {
     }
 }
 
-#[derive(Clone, Copy)]
+#[derive(Clone, Copy, Debug, PartialEq, Eq)]
 pub enum Dpi {
     Indeterminate,
     Off,
@@ -102,7 +102,7 @@ impl Dpi {
     }
 }
 
-#[derive(Clone, Copy)]
+#[derive(Clone, Copy, Debug, PartialEq, Eq)]
 pub struct Diq {
     pub iv: bool,
     pub nt: bool,
@@ -137,7 +137,7 @@ impl Diq {
 }
 
 // Value with transient state indication: seven signed bits and a mark, then the quality.
-#[derive(Clone, Copy)]
+#[derive(Clone, Copy, Debug, PartialEq, Eq)]
 pub struct Vti {
     pub value: i8,
     pub transient: bool,
@@ -167,24 +167,25 @@ impl Vti {
         }
     }
 
-    pub fn to_bytes(self) -> PairAnswer
+    #[tactic(auto, unfolding(crate::specs::Refusals::refusal))]
+    pub fn to_bytes(self) -> Result<(u8, u8), Refusal>
         ensures { result ≡ vti_answer self }
     {
         let bits = self.value.to_bits();
         let mark = laws::bit(self.transient) * 128;
         let qds = self.qds;
         if bits < 64 {
-            return PairAnswer::Octets(bits + mark, qds.to_byte());
+            return Ok((bits + mark, qds.to_byte()));
         }
         if 192 <= bits {
-            return PairAnswer::Octets(bits - 128 + mark, qds.to_byte());
+            return Ok((bits - 128 + mark, qds.to_byte()));
         }
-        PairAnswer::Refused(Refusal::VALUE_OUT_OF_RANGE)
+        Err(Refusal::ValueOutOfRange)
     }
 }
 
 // Cause of initialisation: the whole octet, with three causes named.
-#[derive(Clone, Copy)]
+#[derive(Clone, Copy, Debug, PartialEq, Eq)]
 pub enum Coi {
     LocalPowerOn,
     LocalManualReset,
@@ -205,19 +206,16 @@ impl Coi {
     }
 
     // A named cause is not written as another one: it would read back by its name.
-    pub fn to_byte(self) -> OctetAnswer
+    #[tactic(auto, unfolding(crate::specs::Refusals::refusal))]
+    pub fn to_byte(self) -> Result<u8, Refusal>
         ensures { result ≡ coi_answer self }
     {
         match self {
-            Coi::LocalPowerOn => OctetAnswer::Octet(0),
-            Coi::LocalManualReset => OctetAnswer::Octet(1),
-            Coi::RemoteReset => OctetAnswer::Octet(2),
-            Coi::Other(byte) => {
-                if byte < 3 {
-                    return OctetAnswer::Refused(Refusal::VALUE_OUT_OF_RANGE);
-                }
-                OctetAnswer::Octet(byte)
-            }
+            Coi::LocalPowerOn => Ok(0),
+            Coi::LocalManualReset => Ok(1),
+            Coi::RemoteReset => Ok(2),
+            Coi::Other(byte) if byte < 3 => Err(Refusal::ValueOutOfRange),
+            Coi::Other(byte) => Ok(byte),
         }
     }
 }

@@ -2,9 +2,9 @@
 ghost use Rattle.std.specs.Prelude.{◌≡◌};
 ghost use Rattle.elements.specs.Quality.{qds_of, qds_octet, seq_qd_of, seq_qd_answer};
 
-use crate::refusals::{OctetAnswer, Refusal};
+use crate::refusals::Refusal;
 
-#[derive(Clone, Copy)]
+#[derive(Clone, Copy, Debug, PartialEq, Eq)]
 pub struct Qds {
     pub iv: bool,
     pub nt: bool,
@@ -37,7 +37,7 @@ impl Qds {
     }
 }
 
-#[derive(Clone, Copy)]
+#[derive(Clone, Copy, Debug, PartialEq, Eq)]
 pub struct SeqQd {
     pub iv: bool,
     pub ca: bool,
@@ -57,14 +57,13 @@ impl SeqQd {
         }
     }
 
-    pub fn to_byte(self) -> OctetAnswer
+    #[tactic(auto, unfolding(crate::specs::Refusals::refusal))]
+    pub fn to_byte(self) -> Result<u8, Refusal>
         ensures { result ≡ seq_qd_answer self }
     {
         if 31 < self.seq {
-            return OctetAnswer::Refused(Refusal::VALUE_OUT_OF_RANGE);
+            return Err(Refusal::ValueOutOfRange);
         }
-        OctetAnswer::Octet(
-            self.seq + laws::bit(self.cy) * 32 + laws::bit(self.ca) * 64 + laws::bit(self.iv) * 128,
-        )
+        Ok(self.seq + laws::bit(self.cy) * 32 + laws::bit(self.ca) * 64 + laws::bit(self.iv) * 128)
     }
 }

@@ -27,7 +27,6 @@ held false n x h = absurd (omega arith)
 
 -- a refusal and what comes next
 pub both : (r x : ℕ) → (r then x) ≡ 0 → (r ≡ 0) × (x ≡ 0)
-unfolding ◌then◌
 both r x h = by (eqb r 0) refl h
   where
     by : (b : Bool) → eqb r 0 ≡ b → pick b x r ≡ 0 → (r ≡ 0) × (x ≡ 0)

@@ -8,5 +8,5 @@ pick false a b = b
 
 -- a refusal's number, or, where that is 0, what comes next
 infixr 20 ◌then◌
-unfoldable pub ◌then◌ : ℕ → ℕ → ℕ
+abbrev pub ◌then◌ : ℕ → ℕ → ℕ
 r then x = pick (eqb r 0) x r

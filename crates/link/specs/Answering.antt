@@ -1,18 +1,17 @@
 -- What the code's answers are, given a call's outcome. What comes after the answers stands in contracts of helpers only: what a step
 -- of a call rests on and has done. No promise speaks of them.
-use Rattle.std.specs.Prelude.{ℕ, ◌+◌, ◌%◌, ◌≤◌, ◌<◌, Bool, false, ◌≡◌, List, length, get_or, eqb}
+use Rattle.std.specs.Prelude.{ℕ, ◌+◌, ◌%◌, ◌≤◌, ◌<◌, Bool, false, ◌≡◌, List, length, get_or, eqb, Result, Ok, Err}
 use Rattle.std.proofs.lemmas.List.Edits.{sets}
 use Rattle.std.specs.Fn.{Once}
 use denote.Ref.{MutBor}
-use Rattle.laws.specs.Choice.{pick}
-use Rattle.elements.specs.Refusals.{refusal}
+use Rattle.elements.specs.Refusals.{answer, refusal}
 use Rattle.elements.specs.declared.refusals.Refusal.{Refusal}
 use Rattle.link_state.specs.declared.State.{State}
 use Rattle.link_state.specs.declared.Link.{Link}
 use Rattle.link.specs.Frames.{wire}
 use Rattle.link.specs.Making.{Making, window_full}
 use Rattle.link.specs.Events.{Outcome}
-use Rattle.link.specs.declared.answers.LinkAnswer.{LinkAnswer}
+use Rattle.link.specs.declared.answers.Done.{Done}
 use Rattle.link.specs.declared.answers.Called.{Called}
 use Rattle.link.specs.declared.answers.Step.{Step}
 use Rattle.link.specs.declared.answers.Made.{Made}
@@ -20,11 +19,8 @@ use Rattle.link.specs.declared.answers.Made.{Made}
 -- ---- answers
 
 -- accepted: the octets written, whether the window is full, whether an ASDU came; or the refusal
-unfoldable pub answer_of : Outcome → LinkAnswer
-answer_of o =
-    pick (eqb o.refused 0)
-    (LinkAnswer.Done (record { written = length (wire o.frames); full = window_full o.state; came = o.came }))
-    (LinkAnswer.Refused (refusal o.refused))
+unfoldable pub answer_of : Outcome → Result Done Refusal
+answer_of o = answer o.refused (record { written = length (wire o.frames); full = window_full o.state; came = o.came })
 
 -- the outcome without its ring, and with it
 unfoldable pub step_for : Outcome → Step
@@ -33,28 +29,24 @@ step_for o = record { state = o.state; answer = answer_of o }
 unfoldable pub called_of : Outcome → Called
 called_of o = record { link = record { times = o.times; state = o.state }; answer = answer_of o }
 
--- an answer's number and values
-abbrev pub link_number : LinkAnswer → ℕ
-link_number (LinkAnswer.Done d) = 0
-link_number (LinkAnswer.Refused r) = r.0
+-- an answer's values
+abbrev pub link_written : Result Done Refusal → ℕ
+link_written (Ok d) = d.written
+link_written (Err r) = 0
 
-abbrev pub link_written : LinkAnswer → ℕ
-link_written (LinkAnswer.Done d) = d.written
-link_written (LinkAnswer.Refused r) = 0
+abbrev pub link_full : Result Done Refusal → Bool
+link_full (Ok d) = d.full
+link_full (Err r) = false
 
-abbrev pub link_full : LinkAnswer → Bool
-link_full (LinkAnswer.Done d) = d.full
-link_full (LinkAnswer.Refused r) = false
-
-abbrev pub link_came : LinkAnswer → Bool
-link_came (LinkAnswer.Done d) = d.came
-link_came (LinkAnswer.Refused r) = false
+abbrev pub link_came : Result Done Refusal → Bool
+link_came (Ok d) = d.came
+link_came (Err r) = false
 
 -- ---- the ends of a call
 
 -- refused by its check: the link as it was
 abbrev pub refused_call : Link → Refusal → Called
-refused_call l r = record { link = l; answer = LinkAnswer.Refused r }
+refused_call l r = record { link = l; answer = Err r }
 
 -- the ring joins what the event has come to
 abbrev pub call_of : List ℕ → Step → Called
@@ -88,10 +80,10 @@ abbrev pub made_of : State → ℕ → Made
 made_of s end = record { state = s; end = end }
 
 unfoldable pub done_step : State → ℕ → Bool → Step
-done_step s written came = record { state = s; answer = LinkAnswer.Done (record { written = written; full = window_full s; came = came }) }
+done_step s written came = record { state = s; answer = Ok (record { written = written; full = window_full s; came = came }) }
 
-unfoldable pub refused_step : State → ℕ → Step
-refused_step s r = record { state = s; answer = LinkAnswer.Refused (refusal r) }
+unfoldable pub refused_step : State → Refusal → Step
+refused_step s r = record { state = s; answer = Err r }
 
 -- the frames of a call in the making, written from place `at` on
 pub record Makes (g : Making) (at : ℕ) (out : List ℕ) (r : Made) (out' : List ℕ) : Type 0 where

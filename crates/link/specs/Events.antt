@@ -1,18 +1,20 @@
 -- Document 01, "The link": what each event makes of the state, the ring, the pool and the output.
-use Rattle.std.specs.Prelude.{ℕ, ◌+◌, ◌*◌, ◌%◌, Bool, true, false, ◌&&◌, Option, None, Some, List, [], length, get_or, leb, ltb, eqb}
+use Rattle.std.specs.Prelude.{ℕ, Result, Ok, Err, ◌+◌, ◌*◌, ◌%◌, Bool, true, false, ◌&&◌, Option, None, Some, List, [], length, get_or, leb, ltb, eqb}
 use Rattle.std.proofs.lemmas.List.Edits.{sets}
 use Rattle.laws.specs.Choice.{pick}
-use Rattle.elements.specs.Refusals.{wrong_send_number, u_not_answered, u_timed_out, i_timed_out, too_many_tests, queue_full, not_plain_form}
+use Rattle.elements.specs.Refusals.{number, wrong_send_number, u_not_answered, u_timed_out, i_timed_out, too_many_tests, queue_full, not_plain_form}
+use Rattle.elements.specs.declared.refusals.Refusal.{Refusal}
 use Rattle.asdu.specs.Plain.{plain_answer}
-use Rattle.asdu.specs.declared.PlainAnswer.{PlainAnswer}
+use Rattle.asdu.specs.declared.Form.{Form}
+use Rattle.asdu.specs.declared.Form.TheVariants.{Plain, Reserved}
 use Rattle.apdu.specs.Control.{receive_number, u_octet}
 use Rattle.apdu.specs.Reading.{frame_answer}
 use Rattle.apdu.specs.declared.frame.UFrame.{UFrame}
-use Rattle.apdu.specs.declared.frame.FrameAnswer.{FrameAnswer}
+use Rattle.apdu.specs.declared.frame.Frame as read
+use Rattle.apdu.specs.declared.frame.Frame.TheVariants.{I, S, U}
 use Rattle.link_state.specs.Acknowledging.{acknowledged}
 use Rattle.link_state.specs.Limits.{call_refusal}
 use Rattle.link_state.specs.Opening.{unset}
-use Rattle.link_state.specs.declared.acknowledging.AckAnswer.{AckAnswer}
 use Rattle.link_state.specs.declared.State.{State}
 use Rattle.link_state.specs.declared.Link.{Link}
 use Rattle.link.specs.Frames.{Frame, u_with, stop_act, stop_con, test_act, test_con}
@@ -50,9 +52,9 @@ unfoldable pub release : ℕ → ℕ → State → List ℕ → List ℕ → Mak
 release d now s times pool = send_waiting now pool (start (freed_of s (length times) d) times)
 
 -- "S: 27, free, send waiting"; each accepted frame sets t3
-unfoldable pub s_freeing : AckAnswer → State → List ℕ → List ℕ → Bool → ℕ → Outcome
-s_freeing (AckAnswer.Frees d) s times pool more now = accepting false pool (ending more now (become (set_t3 now) (release d now s times pool)))
-s_freeing (AckAnswer.Refused r) s times pool more now = closing r.0 s times pool
+unfoldable pub s_freeing : Result ℕ Refusal → State → List ℕ → List ℕ → Bool → ℕ → Outcome
+s_freeing (Ok d) s times pool more now = accepting false pool (ending more now (become (set_t3 now) (release d now s times pool)))
+s_freeing (Err r) s times pool more now = closing (number r) s times pool
 
 -- an S frame with this receive number
 unfoldable pub on_s : ℕ → State → List ℕ → List ℕ → Bool → ℕ → Outcome
@@ -65,10 +67,10 @@ received s = with_receive s (record { next = receive_number ((s.receive.next.0 +
 
 -- "I: 28, then 27, free the confirmed prefix, receive number and unconfirmed count up by 1, send waiting ASDUs while the
 -- window is open, set t2 if unset"
-unfoldable pub i_freeing : AckAnswer → State → List ℕ → List ℕ → Bool → ℕ → Outcome
-i_freeing (AckAnswer.Frees d) s times pool more now =
+unfoldable pub i_freeing : Result ℕ Refusal → State → List ℕ → List ℕ → Bool → ℕ → Outcome
+i_freeing (Ok d) s times pool more now =
     accepting true pool (ending more now (become (λ (m : State). set_t3 now (start_t2 now m)) (release d now (received s) times pool)))
-i_freeing (AckAnswer.Refused r) s times pool more now = closing r.0 s times pool
+i_freeing (Err r) s times pool more now = closing (number r) s times pool
 
 -- an I frame with this send number and this receive number
 unfoldable pub on_i : ℕ → ℕ → State → List ℕ → List ℕ → Bool → ℕ → Outcome
@@ -102,11 +104,11 @@ on_u u s times pool more now =
     (closing u_not_answered s times pool))))
 
 -- a frame that does not read closes the link with the reading's number
-unfoldable pub on_answer : FrameAnswer → State → List ℕ → List ℕ → Bool → ℕ → Outcome
-on_answer (FrameAnswer.I sent number) s times pool more now = on_i sent.0 number.0 s times pool more now
-on_answer (FrameAnswer.S number) s times pool more now = on_s number.0 s times pool more now
-on_answer (FrameAnswer.U u) s times pool more now = on_u u s times pool more now
-on_answer (FrameAnswer.Refused r) s times pool more now = closing r.0 s times pool
+unfoldable pub on_answer : Result read.Frame Refusal → State → List ℕ → List ℕ → Bool → ℕ → Outcome
+on_answer (Ok (I sent number)) s times pool more now = on_i sent.0 number.0 s times pool more now
+on_answer (Ok (S number)) s times pool more now = on_s number.0 s times pool more now
+on_answer (Ok (U u)) s times pool more now = on_u u s times pool more now
+on_answer (Err r) s times pool more now = closing (number r) s times pool
 
 unfoldable pub on_frame : List ℕ → Bool → State → List ℕ → List ℕ → ℕ → Outcome
 on_frame frame more s times pool now = on_answer (frame_answer frame) s times pool more now
@@ -123,10 +125,10 @@ send_plain asdu s times pool now =
     (ending false now (start (with_queue s (queued s.queue (length asdu))) times))))
 
 -- what reading the ASDU refuses, then 26, then 25
-unfoldable pub send_by : PlainAnswer → List ℕ → State → List ℕ → List ℕ → ℕ → Outcome
-send_by PlainAnswer.Plain asdu s times pool now = send_plain asdu s times pool now
-send_by PlainAnswer.Reserved asdu s times pool now = refusing not_plain_form s times pool
-send_by (PlainAnswer.Refused r) asdu s times pool now = refusing r.0 s times pool
+unfoldable pub send_by : Result Form Refusal → List ℕ → State → List ℕ → List ℕ → ℕ → Outcome
+send_by (Ok Plain) asdu s times pool now = send_plain asdu s times pool now
+send_by (Ok Reserved) asdu s times pool now = refusing not_plain_form s times pool
+send_by (Err r) asdu s times pool now = refusing (number r) s times pool
 
 unfoldable pub on_send : List ℕ → State → List ℕ → List ℕ → ℕ → Outcome
 on_send asdu s times pool now = send_by (plain_answer asdu) asdu s times pool now

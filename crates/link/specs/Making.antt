@@ -3,7 +3,6 @@
 use Rattle.std.specs.Prelude.{ℕ, zero, suc, ◌+◌, ◌-◌, ◌*◌, ◌%◌, min, Bool, true, ◌&&◌, ◌||◌, not, List, [], ◌∷◌, ◌++◌, length, take, drop, get_or, set, leb, ltb}
 use Rattle.std.specs.Option.{option_or}
 use Rattle.laws.specs.Choice.{pick}
-use Rattle.elements.specs.Refusals.{refusal}
 use Rattle.apdu.specs.Control.{send_number}
 use Rattle.link_state.specs.Opening.{unset, set_for}
 use Rattle.link_state.specs.declared.Window.{Window}
@@ -155,4 +154,4 @@ ending more now g = pick (due g.state more) (confirm (become (λ (s : State). wi
 
 -- the link ends
 unfoldable pub shut : ℕ → State → State
-shut reason s = with_status s (record { closed = true; reason = refusal reason })
+shut reason s = with_status s (record { closed = true; reason = reason })

@@ -1,8 +1,4 @@
 // What an event answers, with the link after it.
-ghost use Rattle.std.specs.Prelude.{◌≡◌};
-ghost use Rattle.elements.specs.Refusals.{refusal};
-ghost use Rattle.link.specs.Answering.{link_number};
-
 use elements::refusals::Refusal;
 use link_state::{Link, State};
 
@@ -15,22 +11,16 @@ pub struct Done {
 }
 
 #[derive(Clone, Copy)]
-pub enum LinkAnswer {
-    Done(Done),
-    Refused(Refusal),
-}
-
-#[derive(Clone, Copy)]
 pub struct Called {
     pub link: Link,
-    pub answer: LinkAnswer,
+    pub answer: Result<Done, Refusal>,
 }
 
 // The same without the ring.
 #[derive(Clone, Copy)]
 pub struct Step {
     pub state: State,
-    pub answer: LinkAnswer,
+    pub answer: Result<Done, Refusal>,
 }
 
 // A state, and how many octets of the output are written.
@@ -38,15 +28,4 @@ pub struct Step {
 pub struct Made {
     pub state: State,
     pub end: usize,
-}
-
-impl LinkAnswer {
-    pub fn refusal(self) -> Refusal
-        ensures { result ≡ refusal (link_number self) }
-    {
-        match self {
-            LinkAnswer::Done(_) => Refusal::NONE,
-            LinkAnswer::Refused(r) => r,
-        }
-    }
 }

@@ -12,14 +12,20 @@ use Rattle.laws.specs.Bits.{num}
 use Rattle.laws.specs.Choice.{pick}
 use Rattle.laws.proofs.Choices.{held, picked, pick_same}
 use Rattle.laws.proofs.Window.{window}
+use Rattle.std.specs.Prelude as prelude
+use Rattle.std.specs.Prelude.{Ok, Err}
+use Rattle.elements.specs.declared.refusals.Refusal.{Refusal}
+use Rattle.elements.specs.Refusals as rows
 use Rattle.elements.specs.Refusals.{wrong_receive_number, wrong_send_number, u_not_answered, too_many_tests, queue_full, not_plain_form}
 use Rattle.asdu.specs.Plain.{plain_answer}
-use Rattle.asdu.specs.declared.PlainAnswer.{PlainAnswer}
-use Rattle.asdu.proofs.Passed.{plain_refused}
+use Rattle.asdu.specs.declared.Form.{Form}
+use Rattle.asdu.specs.declared.Form.TheVariants.{Plain, Reserved}
+use Rattle.link.proofs.Numbered.{some_number}
 use Rattle.apdu.specs.Control.{u_of, u_octet}
 use Rattle.apdu.specs.Reading.{frame_answer}
 use Rattle.apdu.specs.declared.frame.UFrame.{UFrame}
-use Rattle.apdu.specs.declared.frame.FrameAnswer.{FrameAnswer}
+use Rattle.apdu.specs.declared.frame.Frame as read
+use Rattle.apdu.specs.declared.frame.Frame.TheVariants.{I, S, U}
 use Rattle.link_state.specs.declared.Settings.{Settings}
 use Rattle.link_state.specs.declared.Timers.{Timers}
 use Rattle.link.specs.Frames.{Frame, i_frame, s_frame, u_frame, stop_act, stop_con, test_act, test_con}
@@ -336,29 +342,29 @@ module _ (now : ℕ) (a : Abstract) (w : Within a) where
   abbrev Has : Event → Result → Type 0
   Has e r = Effect e now a r
 
-  on_frame_law : (f : List ℕ) (more : Bool) (q : FrameAnswer) → frame_answer f ≡ q → Has (frame f more) (step_frame q more now a)
+  on_frame_law : (f : List ℕ) (more : Bool) (q : prelude.Result read.Frame Refusal) → frame_answer f ≡ q → Has (frame f more) (step_frame q more now a)
   unfolding step_frame step_i step_s step_u
-  on_frame_law f more (FrameAnswer.I sent number) e =
+  on_frame_law f more (Ok (I sent number)) e =
       let ev = frame f more in
       let d = freed_by number.0 a in
       picked (Has ev) (eqb sent.0 (on_wire a.received))
       (picked (Has ev) (fits number.0 a)
-      (has_accepted a now ev true d 1 a.waiting _ (ap (λ (q : FrameAnswer). frees_by q a.confirmed) e) (ap counts_by e) (append-nil _) (omega arith)
+      (has_accepted a now ev true d 1 a.waiting _ (ap (λ (q : prelude.Result read.Frame Refusal). frees_by q a.confirmed) e) (ap counts_by e) (append-nil _) (omega arith)
       (grows_finish a now d 1 _ more _ (grows_timing a now d 1 _ (t3_from now) _ (grows_timing a now d 1 _ (t2_from now) _ (counts_lets a now d)))))
       (has_close a now ev wrong_receive_number refl refl refl))
       (has_close a now ev wrong_send_number refl refl refl)
-  on_frame_law f more (FrameAnswer.S number) e =
+  on_frame_law f more (Ok (S number)) e =
       let ev = frame f more in
       let d = freed_by number.0 a in
       picked (Has ev) (fits number.0 a)
-      (has_accepted a now ev false d 0 a.waiting _ (ap (λ (q : FrameAnswer). frees_by q a.confirmed) e) (ap counts_by e) (append-nil _) (omega arith)
+      (has_accepted a now ev false d 0 a.waiting _ (ap (λ (q : prelude.Result read.Frame Refusal). frees_by q a.confirmed) e) (ap counts_by e) (append-nil _) (omega arith)
       (grows_finish a now d 0 _ more _ (grows_timing a now d 0 _ (t3_from now) _ (lets a now d))))
       (has_close a now ev wrong_receive_number refl refl refl)
-  on_frame_law f more (FrameAnswer.U u) e =
+  on_frame_law f more (Ok (U u)) e =
       let ev = frame f more in
       let none_out : Grows a now 0 0 1 a.waiting (begin a) = grows_more a now 0 0 (omega arith) (begins a now) in
       let taken : (p : Progress) → Grows a now 0 0 1 a.waiting p → Has ev (accept false p) = λ p g.
-      has_accepted a now ev false 0 0 a.waiting p (ap (λ (q : FrameAnswer). frees_by q a.confirmed) e) (ap counts_by e) (append-nil _) (omega arith) g in
+      has_accepted a now ev false 0 0 a.waiting p (ap (λ (q : prelude.Result read.Frame Refusal). frees_by q a.confirmed) e) (ap counts_by e) (append-nil _) (omega arith) g in
       let stopping : (p : Progress) → Grows a now 0 0 1 a.waiting p → Has ev (accept false (change (stop_link now) p)) = λ p g.
       taken _ (grows_ended a now 0 0 _ 0 _ (grows_clock a now 0 0 _ _ (grows_timing a now 0 0 _ (t3_from now) p g))) in
       picked (Has ev) (eqb (u_octet u) test_act)
@@ -368,10 +374,10 @@ module _ (now : ℕ) (a : Abstract) (w : Within a) where
       (picked (Has ev) (eqb (u_octet u) stop_act)
       (stopping _ (grows_u a now 0 0 _ (u_of stop_con) _ (begins a now)))
       (picked (Has ev) (eqb (u_octet u) stop_con) (stopping _ none_out) (has_close a now ev u_not_answered refl refl refl))))
-  on_frame_law f more (FrameAnswer.Refused r) e =
-      has_close a now (frame f more) r.0
-      (ap (λ (q : FrameAnswer). pick (eqb r.0 0) (frees_by q a.confirmed) 0) e ∙ pick_same (eqb r.0 0) 0)
-      (ap (λ (q : FrameAnswer). pick (eqb r.0 0) (counts_by q) 0) e ∙ pick_same (eqb r.0 0) 0) refl
+  on_frame_law f more (Err r) e =
+      has_close a now (frame f more) (rows.number r)
+      (ap (λ (q : prelude.Result read.Frame Refusal). pick (eqb (rows.number r) 0) (frees_by q a.confirmed) 0) e ∙ pick_same (eqb (rows.number r) 0) 0)
+      (ap (λ (q : prelude.Result read.Frame Refusal). pick (eqb (rows.number r) 0) (counts_by q) 0) e ∙ pick_same (eqb (rows.number r) 0) 0) refl
 
   -- with the window open nothing waits
   pub alone : is_open a ≡ true → a.waiting ≡ []
@@ -404,11 +410,11 @@ module _ (now : ℕ) (a : Abstract) (w : Within a) where
               unfold queue asdus_of in
               (record { sent = g.sent; received = g.received; confirmed = g.confirmed; times = g.times; order = refl; numbers = g.numbers; unconfirmed = g.unconfirmed; settings = refl; few = g.few })
 
-  on_send_law : (asdu : List ℕ) (q : PlainAnswer) → plain_answer asdu ≡ q → Has (send asdu) (step_send q asdu now a)
+  on_send_law : (asdu : List ℕ) (q : prelude.Result Form Refusal) → plain_answer asdu ≡ q → Has (send asdu) (step_send q asdu now a)
   unfolding step_send
-  on_send_law asdu PlainAnswer.Plain e = on_plain asdu
-  on_send_law asdu PlainAnswer.Reserved e = has_refuse a now (send asdu) not_plain_form refl refl refl
-  on_send_law asdu (PlainAnswer.Refused r) e = has_refuse a now (send asdu) r.0 refl refl (rw (plain_refused asdu r e))
+  on_send_law asdu (Ok Plain) e = on_plain asdu
+  on_send_law asdu (Ok Reserved) e = has_refuse a now (send asdu) not_plain_form refl refl refl
+  on_send_law asdu (Err r) e = has_refuse a now (send asdu) (rows.number r) refl refl (rw (some_number r))
 
   on_stop_law : Has stop (step_stop now a)
   unfolding step_stop tells_r

@@ -11,17 +11,22 @@ use lib.Dec.{leb, ltb, eqb}
 use borrow.Author.Tests.{leb-false, ltb-true, ltb-false, eqb-true}
 use Rattle.laws.specs.Choice.{pick}
 use Rattle.laws.proofs.Choices.{passed}
+use Rattle.std.specs.Prelude as prelude
+use Rattle.std.specs.Prelude.{Ok, Err}
+use Rattle.elements.specs.declared.refusals.Refusal.{Refusal}
+use Rattle.elements.specs.Refusals as rows
 use Rattle.elements.specs.Refusals.{queue_full, wrong_send_number, u_not_answered, too_many_tests, not_plain_form, outside_limits}
 use Rattle.asdu.specs.Plain.{plain_answer}
-use Rattle.asdu.specs.declared.PlainAnswer.{PlainAnswer}
+use Rattle.asdu.specs.declared.Form.{Form}
+use Rattle.asdu.specs.declared.Form.TheVariants.{Plain, Reserved}
 use Rattle.apdu.specs.Control.{u_octet}
 use Rattle.apdu.specs.Reading.{frame_answer}
 use Rattle.apdu.specs.declared.frame.UFrame.{UFrame}
-use Rattle.apdu.specs.declared.frame.FrameAnswer.{FrameAnswer}
+use Rattle.apdu.specs.declared.frame.Frame as read
+use Rattle.apdu.specs.declared.frame.Frame.TheVariants.{I, S, U}
 use Rattle.link_state.specs.Limits.{sound_link, call_refusal}
 use Rattle.link_state.specs.Opening.{fresh_link, opened, open_refusal}
 use Rattle.link_state.specs.Acknowledging.{acknowledged}
-use Rattle.link_state.specs.declared.acknowledging.AckAnswer.{AckAnswer}
 use Rattle.link_state.specs.declared.Settings.{Settings}
 use Rattle.link_state.specs.declared.State.{State}
 use Rattle.link_state.specs.declared.Link.{Link}
@@ -103,19 +108,19 @@ module _ (s : State) (times pool : List ℕ) (now : ℕ) (r : Ready s times now)
   unfolding release
   release_full d t = waiting_full now pool _
 
-  kept_s : (a : AckAnswer) (more : Bool) → Kept (s_freeing a s times pool more now) (length pool)
+  kept_s : (a : prelude.Result ℕ Refusal) (more : Bool) → Kept (s_freeing a s times pool more now) (length pool)
   unfolding s_freeing
-  kept_s (AckAnswer.Frees d) more =
+  kept_s (Ok d) more =
       kept_ending false more pool _ now (become (set_t3 now) (release d now s times pool)) refl (good_t3 _ _ now (good_release d s r.good)) (release_full d s)
-  kept_s (AckAnswer.Refused n) more = kept_closing n.0
+  kept_s (Err n) more = kept_closing (rows.number n)
 
-  kept_i : (a : AckAnswer) (more : Bool) → Kept (i_freeing a s times pool more now) (length pool)
+  kept_i : (a : prelude.Result ℕ Refusal) (more : Bool) → Kept (i_freeing a s times pool more now) (length pool)
   unfolding i_freeing
-  kept_i (AckAnswer.Frees d) more =
+  kept_i (Ok d) more =
       let m = release d now (received s) times pool in
       kept_ending true more pool _ now (become (λ (t : State). set_t3 now (start_t2 now t)) m) refl
       (good_t3 _ _ now (good_t2 m.state m.times now (good_release d (received s) (good_received s times now r.good)))) (release_full d (received s))
-  kept_i (AckAnswer.Refused n) more = kept_closing n.0
+  kept_i (Err n) more = kept_closing (rows.number n)
 
   kept_stopped : (g : Making) → g.state ≡ s → g.times ≡ times → Kept (accepting false pool (become (stopped now) g)) (length pool)
   unfolding accepting shut
@@ -136,13 +141,13 @@ module _ (s : State) (times pool : List ℕ) (now : ℕ) (r : Ready s times now)
       (kept_pick (eqb (u_octet u) stop_act) (kept_stopped (say (u_with stop_con) (start s times)) refl refl)
       (kept_pick (eqb (u_octet u) stop_con) (kept_stopped (start s times) refl refl) (kept_closing u_not_answered))))
 
-  kept_answer : (a : FrameAnswer) (more : Bool) → Kept (on_answer a s times pool more now) (length pool)
+  kept_answer : (a : prelude.Result read.Frame Refusal) (more : Bool) → Kept (on_answer a s times pool more now) (length pool)
   unfolding on_answer on_i on_s
-  kept_answer (FrameAnswer.I sent number) more =
+  kept_answer (Ok (I sent number)) more =
       kept_pick (eqb sent.0 s.receive.next.0) (kept_i (acknowledged s.window.next.0 s.window.held number.0) more) (kept_closing wrong_send_number)
-  kept_answer (FrameAnswer.S number) more = kept_s (acknowledged s.window.next.0 s.window.held number.0) more
-  kept_answer (FrameAnswer.U u) more = kept_u u more
-  kept_answer (FrameAnswer.Refused n) more = kept_closing n.0
+  kept_answer (Ok (S number)) more = kept_s (acknowledged s.window.next.0 s.window.held number.0) more
+  kept_answer (Ok (U u)) more = kept_u u more
+  kept_answer (Err n) more = kept_closing (rows.number n)
 
   -- with the window open nothing waits, else it is full
   kept_plain : (asdu : List ℕ) → 6 ≤ length asdu → length asdu ≤ 249 → Kept (send_plain asdu s times pool now) (length pool)
@@ -169,11 +174,11 @@ module _ (s : State) (times pool : List ℕ) (now : ℕ) (r : Ready s times now)
           (record { settings = g.settings; window = g.window; queue = q; recv_high = g.recv_high; timers = g.timers; clock_high = g.clock_high })
           (inr (ltb-false _ _ e))
 
-  kept_send : (asdu : List ℕ) (a : PlainAnswer) → plain_answer asdu ≡ a → Kept (send_by a asdu s times pool now) (length pool)
+  kept_send : (asdu : List ℕ) (a : prelude.Result Form Refusal) → plain_answer asdu ≡ a → Kept (send_by a asdu s times pool now) (length pool)
   unfolding send_by
-  kept_send asdu PlainAnswer.Plain e = let h = plain_sized asdu e in kept_plain asdu h.0 h.1
-  kept_send asdu PlainAnswer.Reserved e = kept_refusing not_plain_form
-  kept_send asdu (PlainAnswer.Refused n) e = kept_refusing n.0
+  kept_send asdu (Ok Plain) e = let h = plain_sized asdu e in kept_plain asdu h.0 h.1
+  kept_send asdu (Ok Reserved) e = kept_refusing not_plain_form
+  kept_send asdu (Err n) e = kept_refusing (rows.number n)
 
   kept_stop : Kept (on_stop s times pool now) (length pool)
   unfolding on_stop confirm confirmed_of

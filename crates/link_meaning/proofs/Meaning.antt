@@ -10,17 +10,22 @@ use lib.Dec.{leb, ltb, eqb}
 use borrow.Author.Tests.{leb-true, leb-false, lt-ltb, ltb-true, eq-eqb}
 use Rattle.laws.specs.Choice.{pick}
 use Rattle.laws.specs.Lists.{tabulate, ring}
+use Rattle.std.specs.Prelude as prelude
+use Rattle.std.specs.Prelude.{Ok, Err}
+use Rattle.elements.specs.declared.refusals.Refusal.{Refusal}
+use Rattle.elements.specs.Refusals as rows
 use Rattle.elements.specs.Refusals.{refusal, queue_full, not_plain_form, wrong_receive_number, wrong_send_number, u_not_answered, too_many_tests}
 use Rattle.asdu.specs.Plain.{plain_answer}
-use Rattle.asdu.specs.declared.PlainAnswer.{PlainAnswer}
+use Rattle.asdu.specs.declared.Form.{Form}
+use Rattle.asdu.specs.declared.Form.TheVariants.{Plain, Reserved}
 use Rattle.apdu.specs.Control.{u_octet}
 use Rattle.apdu.specs.Reading.{frame_answer}
 use Rattle.apdu.specs.declared.frame.UFrame.{UFrame}
-use Rattle.apdu.specs.declared.frame.FrameAnswer.{FrameAnswer}
+use Rattle.apdu.specs.declared.frame.Frame as read
+use Rattle.apdu.specs.declared.frame.Frame.TheVariants.{I, S, U}
 use Rattle.apdu.proofs.Shapes.{number_in, number_low}
 use Rattle.link_state.specs.Acknowledging.{acknowledged}
 use Rattle.link_state.specs.Opening.{fresh_link, opened}
-use Rattle.link_state.specs.declared.acknowledging.AckAnswer.TheVariants as AckAnswer
 use Rattle.link_state.specs.declared.Timers.{Timers}
 use Rattle.link_state.specs.declared.State.{State}
 use Rattle.link_state.proofs.Sound.{passed}
@@ -78,7 +83,7 @@ module _ (s : State) (times pool : List ℕ) (now : ℕ) (a : Abstract) (good : 
   -- ---- frames
 
   acknowledges : (number : ℕ) → number ≤ 32767 → acknowledged s.window.next.0 s.window.held number
-      ≡ pick (fits number a) (AckAnswer.Frees (freed_by number a)) (AckAnswer.Refused (refusal wrong_receive_number))
+      ≡ pick {A = prelude.Result ℕ Refusal} (fits number a) (Ok (freed_by number a)) (Err (refusal wrong_receive_number))
   acknowledges number h =
       let w = good.window in
       let k = good.settings.k_high in
@@ -92,11 +97,11 @@ module _ (s : State) (times pool : List ℕ) (now : ℕ) (a : Abstract) (good : 
       omega arith
 
   same_s : (number : ℕ) (more : Bool) → number ≤ 32767 → SameOutcome (on_s number s times pool more now) (step_s number more now a)
-  unfolding on_s step_s
+  unfolding on_s step_s refusal
   same_s number more h = rw (acknowledges number h) (by (fits number a) refl)
     where
       by : (b : Bool) → fits number a ≡ b
-          → SameOutcome (s_freeing (pick b (AckAnswer.Frees (freed_by number a)) (AckAnswer.Refused (refusal wrong_receive_number))) s times pool more now)
+          → SameOutcome (s_freeing (pick {A = prelude.Result ℕ Refusal} b (Ok (freed_by number a)) (Err (refusal wrong_receive_number))) s times pool more now)
           (pick b (accept false (finish more now (change (timing (t3_from now)) (letting (freed_by number a) now a)))) (close wrong_receive_number a))
       by true e =
           unfold s_freeing in
@@ -104,14 +109,14 @@ module _ (s : State) (times pool : List ℕ) (now : ℕ) (a : Abstract) (good : 
       by false e = unfold s_freeing in same_close wrong_receive_number
 
   same_i : (sent number : ℕ) (more : Bool) → number ≤ 32767 → SameOutcome (on_i sent number s times pool more now) (step_i sent number more now a)
-  unfolding on_i step_i
+  unfolding on_i step_i refusal
   same_i sent number more h =
       same_pick (eqb sent s.receive.next.0) (eqb sent (a.received % 32768)) (ap (eqb sent) m.recv)
       (λ t. rw (acknowledges number h) (by (fits number a) refl))
       (λ t. same_close wrong_send_number)
     where
       by : (b : Bool) → fits number a ≡ b
-          → SameOutcome (i_freeing (pick b (AckAnswer.Frees (freed_by number a)) (AckAnswer.Refused (refusal wrong_receive_number))) s times pool more now)
+          → SameOutcome (i_freeing (pick {A = prelude.Result ℕ Refusal} b (Ok (freed_by number a)) (Err (refusal wrong_receive_number))) s times pool more now)
           (pick b
           (accept true (finish more now (change (timing (t3_from now)) (change (timing (t2_from now)) (letting (freed_by number a) now (count a))))))
           (close wrong_receive_number a))
@@ -145,12 +150,12 @@ module _ (s : State) (times pool : List ℕ) (now : ℕ) (a : Abstract) (good : 
       (λ t. same_stopped _ _ begins)
       (λ t. same_close u_not_answered))))
 
-  same_answer : (f : FrameAnswer) (more : Bool) → number_in f ≤ 32767 → SameOutcome (on_answer f s times pool more now) (step_frame f more now a)
+  same_answer : (f : prelude.Result read.Frame Refusal) (more : Bool) → number_in f ≤ 32767 → SameOutcome (on_answer f s times pool more now) (step_frame f more now a)
   unfolding on_answer step_frame
-  same_answer (FrameAnswer.I sent number) more h = same_i sent.0 number.0 more h
-  same_answer (FrameAnswer.S number) more h = same_s number.0 more h
-  same_answer (FrameAnswer.U u) more h = same_u u more
-  same_answer (FrameAnswer.Refused r) more h = same_close r.0
+  same_answer (Ok (I sent number)) more h = same_i sent.0 number.0 more h
+  same_answer (Ok (S number)) more h = same_s number.0 more h
+  same_answer (Ok (U u)) more h = same_u u more
+  same_answer (Err r) more h = same_close (rows.number r)
 
   -- ---- send
 
@@ -173,11 +178,11 @@ module _ (s : State) (times pool : List ℕ) (now : ℕ) (a : Abstract) (good : 
       (alike_finish now _ false _ _
       (record { means = means_queued s times pool a m asdu (omega arith) q.slots h room (λ i n. (q.lengths i n).1); frames = refl }))))
 
-  same_send : (asdu : List ℕ) (p : PlainAnswer) → plain_answer asdu ≡ p → SameOutcome (send_by p asdu s times pool now) (step_send p asdu now a)
+  same_send : (asdu : List ℕ) (p : prelude.Result Form Refusal) → plain_answer asdu ≡ p → SameOutcome (send_by p asdu s times pool now) (step_send p asdu now a)
   unfolding send_by step_send
-  same_send asdu PlainAnswer.Plain e = same_plain asdu (plain_sized asdu e).1
-  same_send asdu PlainAnswer.Reserved e = same_refuse not_plain_form
-  same_send asdu (PlainAnswer.Refused r) e = same_refuse r.0
+  same_send asdu (Ok Plain) e = same_plain asdu (plain_sized asdu e).1
+  same_send asdu (Ok Reserved) e = same_refuse not_plain_form
+  same_send asdu (Err r) e = same_refuse (rows.number r)
 
   -- ---- stop, test, tick
 

@@ -9,10 +9,12 @@ use lib.Seq.{sets}
 use lib.Dec.{leb, ltb, eqb}
 use borrow.Author.Tests.{le-leb, ltb-true, ltb-false, leb-true, leb-false, lt-leb}
 use Rattle.laws.specs.Choice.{pick}
+use Rattle.std.specs.Prelude as prelude
+use Rattle.std.specs.Prelude.{Ok, Err}
+use Rattle.elements.specs.declared.refusals.Refusal.{Refusal}
 use Rattle.elements.specs.Refusals.{refusal, wrong_receive_number}
 use Rattle.link_state.specs.Acknowledging.{confirms, numbers_in_limits, ack_refusal, acknowledged}
 use Rattle.link_state.specs.Opening.{unset}
-use Rattle.link_state.specs.declared.acknowledging.AckAnswer.{AckAnswer}
 use Rattle.link_state.specs.declared.Settings.{Settings}
 use Rattle.link_state.specs.declared.Status.{Status}
 use Rattle.link_state.specs.declared.Timers.{Timers}
@@ -149,16 +151,16 @@ module _ (s : State) (times pool : List ℕ) (a : Abstract) (m : Means s times p
 
   pub means_acknowledged : (number : ℕ) → s.window.held ≤ 32767 → s.window.next.0 ≤ 32767 → number ≤ 32767
       → acknowledged s.window.next.0 s.window.held number
-      ≡ pick (fits number a) (AckAnswer.Frees (freed_by number a)) (AckAnswer.Refused (refusal wrong_receive_number))
+      ≡ pick {A = prelude.Result ℕ Refusal} (fits number a) (Ok (freed_by number a)) (Err (refusal wrong_receive_number))
   unfolding acknowledged ack_refusal numbers_in_limits fits
   means_acknowledged number h n l =
       rw (le-leb s.window.next.0 32767 n, le-leb s.window.held 32767 h, le-leb number 32767 l, means_freed_by number h)
       (by (leb (a.confirmed + freed_by number a) a.sent) refl)
     where
       by : (b : Bool) → leb (a.confirmed + freed_by number a) a.sent ≡ b
-          → pick (eqb (pick (leb (freed_by number a) s.window.held) 0 wrong_receive_number) 0) (AckAnswer.Frees (freed_by number a))
-          (AckAnswer.Refused (refusal (pick (leb (freed_by number a) s.window.held) 0 wrong_receive_number)))
-          ≡ pick b (AckAnswer.Frees (freed_by number a)) (AckAnswer.Refused (refusal wrong_receive_number))
+          → pick {A = prelude.Result ℕ Refusal} (eqb (pick (leb (freed_by number a) s.window.held) 0 wrong_receive_number) 0) (Ok (freed_by number a))
+          (Err (refusal (pick (leb (freed_by number a) s.window.held) 0 wrong_receive_number)))
+          ≡ pick b (Ok (freed_by number a)) (Err (refusal wrong_receive_number))
       by true q =
           let e = m.held in
           let z = leb-true (a.confirmed + freed_by number a) a.sent q in

@@ -1,16 +1,20 @@
 -- Document 01, "The link", by totals and lists: no ring, no places, no sequence numbers, no pool.
 -- S is the number of I frames handed out, R of those accepted, A of those confirmed, since opening.
-use Rattle.std.specs.Prelude.{ℕ, ◌+◌, ◌-◌, ◌%◌, Bool, true, false, ◌&&◌, ◌||◌, not, List, [], ◌∷◌, ◌++◌, length, drop, leb, ltb, eqb}
+use Rattle.std.specs.Prelude.{ℕ, ◌+◌, ◌-◌, ◌%◌, Bool, true, false, ◌&&◌, ◌||◌, not, List, [], ◌∷◌, ◌++◌, length, drop, leb, ltb, eqb, Ok, Err}
+use Rattle.std.specs.Prelude as prelude
 use Rattle.std.specs.Option.{option_or}
 use Rattle.laws.specs.Choice.{pick}
 use Rattle.laws.specs.Window.{freed}
-use Rattle.elements.specs.Refusals.{refusal, wrong_receive_number, wrong_send_number, u_not_answered, u_timed_out, i_timed_out, too_many_tests, queue_full, not_plain_form}
+use Rattle.elements.specs.Refusals.{number, wrong_receive_number, wrong_send_number, u_not_answered, u_timed_out, i_timed_out, too_many_tests, queue_full, not_plain_form}
+use Rattle.elements.specs.declared.refusals.Refusal.{Refusal}
 use Rattle.asdu.specs.Plain.{plain_answer}
-use Rattle.asdu.specs.declared.PlainAnswer.{PlainAnswer}
+use Rattle.asdu.specs.declared.Form.{Form}
+use Rattle.asdu.specs.declared.Form.TheVariants.{Plain, Reserved}
 use Rattle.apdu.specs.Control.{u_octet}
 use Rattle.apdu.specs.Reading.{frame_answer}
 use Rattle.apdu.specs.declared.frame.UFrame.{UFrame}
-use Rattle.apdu.specs.declared.frame.FrameAnswer.{FrameAnswer}
+use Rattle.apdu.specs.declared.frame.Frame as read
+use Rattle.apdu.specs.declared.frame.Frame.TheVariants.{I, S, U}
 use Rattle.link_state.specs.Opening.{unset, set_for}
 use Rattle.link_state.specs.declared.Settings.{Settings}
 use Rattle.link_state.specs.declared.Timers.{Timers}
@@ -147,7 +151,7 @@ settle a = set_unconfirmed 0 (set_timers (t2_unset a.settings a.timers) a)
 
 -- the link ends
 unfoldable pub ended : ℕ → Abstract → Abstract
-ended reason a = set_status (record { closed = true; reason = refusal reason }) a
+ended reason a = set_status (record { closed = true; reason = reason }) a
 
 -- a link just opened
 unfoldable pub fresh : Settings → ℕ → Abstract
@@ -160,7 +164,7 @@ fresh s now = record {
   waiting = [];
   unconfirmed = 0;
   timers = record { t1u = unset; t2 = unset; t3 = set_for (now + s.t3); tests = 0 };
-  status = record { closed = false; reason = refusal 0 };
+  status = record { closed = false; reason = 0 };
   clock = now;
 }
 
@@ -253,11 +257,11 @@ step_u u more now a =
     (close u_not_answered a))))
 
 -- a frame that does not read closes the link with the reading's number
-unfoldable pub step_frame : FrameAnswer → Bool → ℕ → Abstract → Result
-step_frame (FrameAnswer.I sent number) more now a = step_i sent.0 number.0 more now a
-step_frame (FrameAnswer.S number) more now a = step_s number.0 more now a
-step_frame (FrameAnswer.U u) more now a = step_u u more now a
-step_frame (FrameAnswer.Refused r) more now a = close r.0 a
+unfoldable pub step_frame : prelude.Result read.Frame Refusal → Bool → ℕ → Abstract → Result
+step_frame (Ok (I sent number)) more now a = step_i sent.0 number.0 more now a
+step_frame (Ok (S number)) more now a = step_s number.0 more now a
+step_frame (Ok (U u)) more now a = step_u u more now a
+step_frame (Err r) more now a = close (number r) a
 
 -- with the window open it goes out at once; else it waits, 25 where p wait already
 unfoldable pub step_plain : List ℕ → ℕ → Abstract → Result
@@ -267,10 +271,10 @@ step_plain asdu now a =
     (accept false (finish false now (begin (queue asdu a)))))
 
 -- what reading the ASDU refuses, then 26, then 25
-unfoldable pub step_send : PlainAnswer → List ℕ → ℕ → Abstract → Result
-step_send PlainAnswer.Plain asdu now a = step_plain asdu now a
-step_send PlainAnswer.Reserved asdu now a = refuse not_plain_form a
-step_send (PlainAnswer.Refused r) asdu now a = refuse r.0 a
+unfoldable pub step_send : prelude.Result Form Refusal → List ℕ → ℕ → Abstract → Result
+step_send (Ok Plain) asdu now a = step_plain asdu now a
+step_send (Ok Reserved) asdu now a = refuse not_plain_form a
+step_send (Err r) asdu now a = refuse (number r) a
 
 -- "Writes stop act, then confirms; sets t1-U"
 unfoldable pub step_stop : ℕ → Abstract → Result

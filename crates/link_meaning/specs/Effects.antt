@@ -1,9 +1,12 @@
 -- What a call does to totals and lists, whatever the event: counted from the call, its number and the frames that it handed out.
-use Rattle.std.specs.Prelude.{ℕ, ◌+◌, ◌<◌, ◌≤◌, Bool, true, false, ◌≡◌, List, [], ◌∷◌, ◌++◌, ◌↔◌, length, drop, replicate, eqb}
+use Rattle.std.specs.Prelude.{ℕ, ◌+◌, ◌<◌, ◌≤◌, Bool, true, false, ◌≡◌, List, [], ◌∷◌, ◌++◌, ◌↔◌, length, drop, replicate, eqb, Ok, Err}
+use Rattle.std.specs.Prelude as prelude
 use Rattle.laws.specs.Choice.{pick}
 use Rattle.laws.specs.Window.{Confirms, freed}
+use Rattle.elements.specs.declared.refusals.Refusal.{Refusal}
 use Rattle.apdu.specs.Reading.{frame_answer}
-use Rattle.apdu.specs.declared.frame.FrameAnswer.{FrameAnswer}
+use Rattle.apdu.specs.declared.frame.Frame as read
+use Rattle.apdu.specs.declared.frame.Frame.TheVariants.{I, S, U}
 use Rattle.link.specs.Frames.{Frame, i_frame, s_frame, u_frame}
 use Rattle.link.specs.Events.{Event, frame, send, stop, test, tick}
 use Rattle.link_meaning.specs.Abstract.{Abstract, Result, on_wire, step_s, step_i, step}
@@ -38,18 +41,18 @@ others (s_frame r ∷ fs) = others fs + 1
 others (u_frame u ∷ fs) = others fs + 1
 
 -- how many frames a receive number frees where A are confirmed
-abbrev pub frees_by : FrameAnswer → ℕ → ℕ
-frees_by (FrameAnswer.I sent number) confirmed = freed 32768 confirmed number.0
-frees_by (FrameAnswer.S number) confirmed = freed 32768 confirmed number.0
-frees_by (FrameAnswer.U u) confirmed = 0
-frees_by (FrameAnswer.Refused r) confirmed = 0
+abbrev pub frees_by : prelude.Result read.Frame Refusal → ℕ → ℕ
+frees_by (Ok (I sent number)) confirmed = freed 32768 confirmed number.0
+frees_by (Ok (S number)) confirmed = freed 32768 confirmed number.0
+frees_by (Ok (U u)) confirmed = 0
+frees_by (Err r) confirmed = 0
 
 -- an I frame counts
-abbrev pub counts_by : FrameAnswer → ℕ
-counts_by (FrameAnswer.I sent number) = 1
-counts_by (FrameAnswer.S number) = 0
-counts_by (FrameAnswer.U u) = 0
-counts_by (FrameAnswer.Refused r) = 0
+abbrev pub counts_by : prelude.Result read.Frame Refusal → ℕ
+counts_by (Ok (I sent number)) = 1
+counts_by (Ok (S number)) = 0
+counts_by (Ok (U u)) = 0
+counts_by (Err r) = 0
 
 -- what a call frees, by its number: nothing if it is refused
 abbrev pub frees : Event → ℕ → ℕ → ℕ

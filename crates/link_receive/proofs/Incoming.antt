@@ -10,17 +10,17 @@ use lib.ListN.{length}
 use lib.Seq.{sets}
 use borrow.Author.Tests.{eqb-true, eq-eqb, ne_eqb}
 use Rattle.laws.specs.Choice.{pick}
-use Rattle.elements.specs.Refusals.{refusal, u_not_answered}
+use Rattle.std.specs.Prelude.{Result, Ok, Err}
+use Rattle.elements.specs.Refusals.{number, refusal}
 use Rattle.elements.specs.declared.refusals.Refusal.{Refusal}
+use Rattle.elements.specs.declared.refusals.Refusal.TheVariants.{UNotAnswered}
 use Rattle.apdu.specs.Control.{u_octet}
 use Rattle.apdu.specs.Reading.{frame_answer}
 use Rattle.apdu.specs.Writing.{start_octets}
 use Rattle.apdu.specs.declared.frame.ReceiveNumber.{ReceiveNumber}
 use Rattle.apdu.specs.declared.frame.UFrame.{UFrame}
-use Rattle.apdu.specs.declared.frame.FrameAnswer.{FrameAnswer}
-use Rattle.apdu.proofs.Shapes.{refused_some}
-use Rattle.link_state.specs.Acknowledging.{confirms, ack_refusal, acknowledged, ack_number}
-use Rattle.link_state.specs.declared.acknowledging.AckAnswer.{AckAnswer}
+use Rattle.apdu.specs.declared.frame.Frame.{Frame}
+use Rattle.link_state.specs.Acknowledging.{confirms, ack_refusal, acknowledged}
 use Rattle.link_state.specs.declared.State.{State}
 use Rattle.link_state.proofs.Acks.{frees_within}
 use Rattle.link.specs.declared.answers.Step.{Step}
@@ -96,63 +96,58 @@ released s ts pool poolLen outLen now d o =
 -- ---- the receive number
 
 -- what an answer shows
-abbrev AckTold : ℕ → AckAnswer → Type 0
-AckTold held (AckAnswer.Frees d) = d ≤ held
-AckTold held (AckAnswer.Refused r) = eqb r.0 0 ≡ false
+abbrev AckTold : ℕ → Result ℕ Refusal → Type 0
+AckTold held (Ok d) = d ≤ held
+AckTold held (Err r) = Unit {0}
 
 ack_told : (next held number : ℕ) → AckTold held (acknowledged next held number)
 unfolding acknowledged
 ack_told next held number = by (eqb (ack_refusal next held number) 0) refl
   where
     by : (b : Bool) → eqb (ack_refusal next held number) 0 ≡ b
-        → AckTold held (pick b (AckAnswer.Frees (confirms next held number)) (AckAnswer.Refused (refusal (ack_refusal next held number))))
+        → AckTold held (pick {A = Result ℕ Refusal} b (Ok (confirms next held number)) (Err (refusal (ack_refusal next held number))))
     by true e = frees_within next held number (eqb-true _ _ e)
-    by false e = e
+    by false e = tt
 
-pub frees_held : (next held number : ℕ) {a : AckAnswer} {d : ℕ} → a ≡ acknowledged next held number → a ≡ AckAnswer.Frees d → d ≤ held
+pub frees_held : (next held number : ℕ) {a : Result ℕ Refusal} {d : ℕ} → a ≡ acknowledged next held number → a ≡ Ok d → d ≤ held
 frees_held next held number acked is = subst (AckTold held) (sym acked ∙ is) (ack_told next held number)
 
-module _ (s : State) (number : ℕ) (ts ps out : List ℕ) (more : Bool) (now : ℕ) {a : AckAnswer}
-    (acked : a ≡ acknowledged s.window.next.0 s.window.held number) where
+module _ (s : State) (got : ℕ) (ts ps out : List ℕ) (more : Bool) (now : ℕ) {a : Result ℕ Refusal}
+    (acked : a ≡ acknowledged s.window.next.0 s.window.held got) where
   -- 27 ends the link
-  module _ {x w : Refusal} {r : Step} (is : a ≡ AckAnswer.Refused x) (told : w ≡ refusal (ack_number a))
-      (closed : r ≡ refused_step (shut w.0 s) w.0) where
-    wrong : acknowledged s.window.next.0 s.window.held number ≡ AckAnswer.Refused x
+  module _ {x : Refusal} {r : Step} (is : a ≡ Err x) (closed : r ≡ refused_step (shut (number x) s) x) where
+    wrong : acknowledged s.window.next.0 s.window.held got ≡ Err x
     wrong = sym acked ∙ is
 
-    closes : Does (closing x.0 s ts ps) out r ts out
-    unfolding closing wrong
-    closes =
-        let some : eqb x.0 0 ≡ false = subst (AckTold s.window.held) wrong (ack_told s.window.next.0 s.window.held number) in
-        let same : w ≡ x = told ∙ ap (λ (b : AckAnswer). refusal (ack_number b)) is in
-        let as-told : r ≡ refused_step (shut x.0 s) x.0 = rw same at closed in
-        record { answers = answers_closing x.0 s ts ps out some as-told; ring = refl }
+    closes : Does (closing (number x) s ts ps) out r ts out
+    unfolding closing
+    closes = record { answers = answers_closing x s ts ps out closed; ring = refl }
 
-    pub s_refused : Does (on_s number s ts ps more now) out r ts out
+    pub s_refused : Does (on_s got s ts ps more now) out r ts out
     unfolding on_s s_freeing
     s_refused = rw wrong closes
 
-    pub i_refused : (sent : ℕ) → sent ≡ s.receive.next.0 → Does (on_i sent number s ts ps more now) out r ts out
+    pub i_refused : (sent : ℕ) → sent ≡ s.receive.next.0 → Does (on_i sent got s ts ps more now) out r ts out
     unfolding on_i i_freeing
     i_refused sent e = rw (eq-eqb sent s.receive.next.0 e, wrong) closes
 
-  right : {d : ℕ} → a ≡ AckAnswer.Frees d → acknowledged s.window.next.0 s.window.held number ≡ AckAnswer.Frees d
+  right : {d : ℕ} → a ≡ Ok d → acknowledged s.window.next.0 s.window.held got ≡ Ok d
   right is = sym acked ∙ is
 
-  pub s_frees : {d : ℕ} {m ended : Made} {t : State} {r : Step} {ts₁ out₁ out₂ : List ℕ} → a ≡ AckAnswer.Frees d
+  pub s_frees : {d : ℕ} {m ended : Made} {t : State} {r : Step} {ts₁ out₁ out₂ : List ℕ} → a ≡ Ok d
       → HandsOut (release d now s ts ps) 0 out m ts₁ out₁ → t ≡ set_t3 now m.state
       → ((l : List ℕ) → Makes (ending more now (start t l)) m.end out₁ ended out₂) → r ≡ done_step ended.state ended.end false
-      → Does (on_s number s ts ps more now) out r ts₁ out₂
+      → Does (on_s got s ts ps more now) out r ts₁ out₂
   unfolding on_s s_freeing accepting
   s_frees {d} is let_out_law timed finished accepted =
       let g = release d now s ts ps in
       let one = makes_become (set_t3 now) let_out_law.makes timed in
       rw (right is) (record { answers = answers_ending false more now ps one one.state finished accepted; ring = let_out_law.ring ∙ sym (ending_times more now (become (set_t3 now) g)) })
 
-  pub i_frees : (sent : ℕ) {d : ℕ} {m ended : Made} {c t₂ t : State} {r : Step} {ts₁ out₁ out₂ : List ℕ} → sent ≡ s.receive.next.0 → a ≡ AckAnswer.Frees d
+  pub i_frees : (sent : ℕ) {d : ℕ} {m ended : Made} {c t₂ t : State} {r : Step} {ts₁ out₁ out₂ : List ℕ} → sent ≡ s.receive.next.0 → a ≡ Ok d
       → c ≡ received s → HandsOut (release d now c ts ps) 0 out m ts₁ out₁ → t₂ ≡ start_t2 now m.state → t ≡ set_t3 now t₂
       → ((l : List ℕ) → Makes (ending more now (start t l)) m.end out₁ ended out₂) → r ≡ done_step ended.state ended.end true
-      → Does (on_i sent number s ts ps more now) out r ts₁ out₂
+      → Does (on_i sent got s ts ps more now) out r ts₁ out₂
   unfolding on_i i_freeing accepting
   i_frees sent {d} {m} {ts₁ = ts₁} {out₁ = out₁} e is counted let_out_law started timed finished accepted =
       let g = release d now (received s) ts ps in
@@ -194,21 +189,20 @@ module _ (u : UFrame) (s : State) (ts ps out : List ℕ) (more : Bool) (now : �
       rw (same, not_octet test_act n₁, not_octet test_con n₂, not_octet stop_act n₃, is_octet stop_con e) (answers_accepting false ps one done)
 
   pub u_other : {r : Step} {out₁ : List ℕ} → (octet ≡ test_act → ⊥) → (octet ≡ test_con → ⊥) → (octet ≡ stop_act → ⊥) → (octet ≡ stop_con → ⊥)
-      → out₁ ≡ out → r ≡ refused_step (shut u_not_answered s) u_not_answered → Answers (on_u u s ts ps more now) out r out₁
+      → out₁ ≡ out → r ≡ refused_step (shut (number UNotAnswered) s) UNotAnswered → Answers (on_u u s ts ps more now) out r out₁
   unfolding on_u
   u_other n₁ n₂ n₃ n₄ same closed =
-      rw (same, not_octet test_act n₁, not_octet test_con n₂, not_octet stop_act n₃, not_octet stop_con n₄) (answers_closing u_not_answered s ts ps out refl closed)
+      rw (same, not_octet test_act n₁, not_octet test_con n₂, not_octet stop_act n₃, not_octet stop_con n₄) (answers_closing UNotAnswered s ts ps out closed)
 
 -- ---- the reading
 
-module _ (f : List ℕ) (s : State) (ts ps out : List ℕ) (more : Bool) (now : ℕ) {a : FrameAnswer} (read : a ≡ frame_answer f) {r : Step} {ts₁ out₁ : List ℕ} where
+module _ (f : List ℕ) (s : State) (ts ps out : List ℕ) (more : Bool) (now : ℕ) {a : Result Frame Refusal} (read : a ≡ frame_answer f) {r : Step} {ts₁ out₁ : List ℕ} where
   -- what is answered to the reading is answered to the frame
-  pub frame_answered : {b : FrameAnswer} → a ≡ b → Does (on_answer b s ts ps more now) out r ts₁ out₁ → Does (on_frame f more s ts ps now) out r ts₁ out₁
+  pub frame_answered : {b : Result Frame Refusal} → a ≡ b → Does (on_answer b s ts ps more now) out r ts₁ out₁ → Does (on_frame f more s ts ps now) out r ts₁ out₁
   unfolding on_frame
-  frame_answered is h = subst (λ (x : FrameAnswer). Does (on_answer x s ts ps more now) out r ts₁ out₁) (sym is ∙ read) h
+  frame_answered is h = subst (λ (x : Result Frame Refusal). Does (on_answer x s ts ps more now) out r ts₁ out₁) (sym is ∙ read) h
 
-  pub frame_refused : {x : Refusal} → a ≡ FrameAnswer.Refused x → ts₁ ≡ ts → out₁ ≡ out → r ≡ refused_step (shut x.0 s) x.0 → Does (on_frame f more s ts ps now) out r ts₁ out₁
+  pub frame_refused : {x : Refusal} → a ≡ Err x → ts₁ ≡ ts → out₁ ≡ out → r ≡ refused_step (shut (number x) s) x → Does (on_frame f more s ts ps now) out r ts₁ out₁
   unfolding on_answer closing
   frame_refused {x} is same-ring same closed =
-      let some = refused_some f x (sym read ∙ is) in
-      frame_answered is (rw (same-ring, same) (record { answers = answers_closing x.0 s ts ps out some closed; ring = refl }))
+      frame_answered is (rw (same-ring, same) (record { answers = answers_closing x s ts ps out closed; ring = refl }))

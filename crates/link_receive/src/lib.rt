@@ -8,11 +8,10 @@ ghost use Rattle.link.specs.Frames.{wire};
 ghost use Rattle.link.specs.Events.{release, received, tests_answered, test_acted, test_confirmed, stopped, on_s, on_i, on_u, on_frame, called, frame};
 ghost use Rattle.link.specs.Answering.{HandsOut, Answers, Does, Timed, Calm, Open, done_step, called_of};
 
-use apdu::frame::{FrameAnswer, ReceiveNumber, SendNumber, UFrame};
+use apdu::frame::{Frame, ReceiveNumber, SendNumber, UFrame};
 use apdu::{reading, writing};
 use elements::refusals::Refusal;
 use link::answers::{Called, Made, Step};
-use link_state::acknowledging::AckAnswer;
 use link_state::{Link, State, acknowledging};
 use link_steps::{steps, waiting};
 
@@ -44,9 +43,9 @@ fn on_s(
     requires { Open s (length times.old) (length pool.now) (length out.old) moment }
     ensures { Does (on_s number.0 s times.old pool.now more moment) out.old result times.new out.new }
 {
-    let acked = acknowledging::acknowledge(s.window.next, s.window.held, number);
-    let AckAnswer::Frees(freed) = acked else {
-        return steps::close(s, acked.refusal());
+    let freed = match acknowledging::acknowledge(s.window.next, s.window.held, number) {
+        Ok(freed) => freed,
+        Err(r) => return steps::close(s, r),
     };
     let made = release(s, times, pool, &mut *out, freed, moment);
     let stamped = steps::set_t3(made.state, moment);
@@ -77,11 +76,11 @@ fn on_i(
     ensures { Does (on_i sent.0 number.0 s times.old pool.now more moment) out.old result times.new out.new }
 {
     if sent.0 != s.receive.next.0 {
-        return steps::close(s, Refusal::WRONG_SEND_NUMBER);
+        return steps::close(s, Refusal::WrongSendNumber);
     }
-    let acked = acknowledging::acknowledge(s.window.next, s.window.held, number);
-    let AckAnswer::Frees(freed) = acked else {
-        return steps::close(s, acked.refusal());
+    let freed = match acknowledging::acknowledge(s.window.next, s.window.held, number) {
+        Ok(freed) => freed,
+        Err(r) => return steps::close(s, r),
     };
     let counted = receive_one(s);
     let made = release(counted, times, pool, &mut *out, freed, moment);
@@ -128,7 +127,7 @@ fn end_by_stop(s: State, end: usize, moment: u64) -> Step
 {
     let mut m = steps::set_t3(s, moment);
     m.clock = moment;
-    let state = steps::end_link(m, Refusal::NONE);
+    let state = steps::end_link(m, 0);
     let made = Made { state, end };
     steps::accept(made, false)
 }
@@ -151,7 +150,7 @@ fn on_u(s: State, out: &mut [u8], u: UFrame, more: bool, moment: u64) -> Step
     if octet == steps::STOP_CON {
         return end_by_stop(s, 0, moment);
     }
-    steps::close(s, Refusal::U_NOT_ANSWERED)
+    steps::close(s, Refusal::UNotAnswered)
 }
 
 fn on_frame(
@@ -166,12 +165,11 @@ fn on_frame(
     requires { Open s (length times.old) (length pool.now) (length out.old) moment × (s.receive.unconfirmed ≤ 32767) }
     ensures { Does (on_frame f.now more s times.old pool.now moment) out.old result times.new out.new }
 {
-    let answer = reading::read_frame(f);
-    match answer {
-        FrameAnswer::I(sent, number) => on_i(s, times, pool, out, sent, number, more, moment),
-        FrameAnswer::S(number) => on_s(s, times, pool, out, number, more, moment),
-        FrameAnswer::U(u) => on_u(s, out, u, more, moment),
-        FrameAnswer::Refused(r) => steps::close(s, r),
+    match reading::read_frame(f) {
+        Ok(Frame::I(sent, number)) => on_i(s, times, pool, out, sent, number, more, moment),
+        Ok(Frame::S(number)) => on_s(s, times, pool, out, number, more, moment),
+        Ok(Frame::U(u)) => on_u(s, out, u, more, moment),
+        Err(r) => steps::close(s, r),
     }
 }
 

@@ -8,7 +8,7 @@ ghost use Rattle.link.specs.Making.{hand_out, ending};
 ghost use Rattle.link.specs.Events.{start, accepting, send_plain, on_send, called, send};
 ghost use Rattle.link.specs.Answering.{Does, DoesSend, Open, called_of};
 
-use asdu::PlainAnswer;
+use asdu::Form;
 use elements::refusals::Refusal;
 use link::answers::{Called, Step};
 use link_state::{Link, State, limits};
@@ -39,7 +39,7 @@ fn send_plain(
         return send_now(s, times, out, asdu, moment);
     }
     if s.settings.p <= s.queue.count {
-        return steps::refuse(s, Refusal::QUEUE_FULL);
+        return steps::refuse(s, Refusal::QueueFull);
     }
     let queued = waiting::enqueue(s, pool, asdu);
     let ended = steps::finish(queued, out, 0, false, moment);
@@ -57,11 +57,10 @@ fn on_send(
     requires { Open s (length times.old) (length pool.old) (length out.old) moment }
     ensures { DoesSend (on_send asdu.now s times.old pool.old moment) out.old result times.new pool.new out.new }
 {
-    let answer = asdu_plain::plain_asdu(asdu);
-    match answer {
-        PlainAnswer::Plain => send_plain(s, times, pool, out, asdu, moment),
-        PlainAnswer::Reserved => steps::refuse(s, Refusal::NOT_PLAIN_FORM),
-        PlainAnswer::Refused(r) => steps::refuse(s, r),
+    match asdu_plain::plain_asdu(asdu) {
+        Ok(Form::Plain) => send_plain(s, times, pool, out, asdu, moment),
+        Ok(Form::Reserved) => steps::refuse(s, Refusal::NotPlainForm),
+        Err(r) => steps::refuse(s, r),
     }
 }
 
@@ -70,9 +69,8 @@ pub fn send(l: Link, pool: &mut [u8], out: &mut [u8], asdu: &[u8], moment: u64) 
     ensures pool_after { pool.new ≡ (called (send asdu.now) l pool.old (length out.old) moment).pool }
     ensures out_after { out.new ≡ sets out.old 0 (wire (called (send asdu.now) l pool.old (length out.old) moment).frames) }
 {
-    let refused = limits::check_call(l, out.len(), pool.len(), moment);
-    if !refused.is_none() {
-        return steps::refuse_call(l, refused);
+    if let Err(r) = limits::check_call(l, out.len(), pool.len(), moment) {
+        return steps::refuse_call(l, r);
     }
     let mut times = l.times;
     let step = on_send(l.state, &mut times, pool, out, asdu, moment);

@@ -6,7 +6,7 @@ use borrow.Author.Tests.{le-leb, lt-leb, leb-true}
 use Rattle.laws.proofs.Choices.{held}
 use Rattle.elements.specs.Refusals.{refusal, outside_limits, wrong_receive_number}
 use Rattle.link_state.specs.Acknowledging.{confirms, numbers_in_limits, ack_refusal, acknowledged}
-use Rattle.link_state.specs.declared.acknowledging.AckAnswer.TheVariants.{Frees, Refused}
+use Rattle.std.specs.Prelude.{Ok, Err}
 use Rattle.laws.proofs.Clauses.{and_iff, leb_iff}
 
 module _ (next window received : ℕ) where
@@ -14,17 +14,17 @@ module _ (next window received : ℕ) where
   unfolding numbers_in_limits
   in_limits e = let h = simp (and_iff, leb_iff) at e in (h.0.0, h.0.1, h.1)
 
-  pub outside : numbers_in_limits next window received ≡ false → Refused (refusal outside_limits) ≡ acknowledged next window received
+  pub outside : numbers_in_limits next window received ≡ false → Err (refusal outside_limits) ≡ acknowledged next window received
   unfolding acknowledged ack_refusal
   outside e = rw e
 
   pub frees : (d : ℕ) → numbers_in_limits next window received ≡ true → d ≡ confirms next window received → d ≤ window
-      → Frees d ≡ acknowledged next window received
+      → Ok d ≡ acknowledged next window received
   unfolding acknowledged ack_refusal
   frees d e is h = rw (e, ← is, le-leb d window h)
 
   pub past : numbers_in_limits next window received ≡ true → window < confirms next window received
-      → Refused (refusal wrong_receive_number) ≡ acknowledged next window received
+      → Err (refusal wrong_receive_number) ≡ acknowledged next window received
   unfolding acknowledged ack_refusal
   past e h = rw (e, lt-leb _ _ h)
 

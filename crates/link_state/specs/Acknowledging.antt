@@ -1,9 +1,10 @@
 -- IEC 60870-5-104: the receive number of an I or S frame confirms all frames with lower numbers; numbers go round by 32,768.
-use Rattle.std.specs.Prelude.{ℕ, ◌+◌, ◌-◌, Bool, ◌&&◌, leb, eqb}
+use Rattle.std.specs.Prelude.{ℕ, ◌+◌, ◌-◌, Bool, ◌&&◌, leb, Result}
+use Rattle.std.specs.Result.{result_unwrap_or}
 use Rattle.laws.specs.Choice.{pick}
 use Rattle.laws.specs.Window.{freed}
-use Rattle.elements.specs.Refusals.{refusal, outside_limits, wrong_receive_number}
-use Rattle.link_state.specs.declared.acknowledging.AckAnswer.{AckAnswer}
+use Rattle.elements.specs.Refusals.{answer, outside_limits, wrong_receive_number}
+use Rattle.elements.specs.declared.refusals.Refusal.{Refusal}
 
 -- how many frames a receive number confirms, `next` being the number of the next frame to be sent and `held` the frames
 -- outstanding, so that the oldest has the number next - held, going round. With next 5 and held 3 the number 2 confirms none,
@@ -22,17 +23,10 @@ ack_refusal next held received =
     (pick (leb (confirms next held received) held) 0 wrong_receive_number)
     outside_limits
 
-unfoldable pub acknowledged : ℕ → ℕ → ℕ → AckAnswer
-acknowledged next held received =
-    pick (eqb (ack_refusal next held received) 0)
-    (AckAnswer.Frees (confirms next held received))
-    (AckAnswer.Refused (refusal (ack_refusal next held received)))
+-- how many are freed, or the refusal
+unfoldable pub acknowledged : ℕ → ℕ → ℕ → Result ℕ Refusal
+acknowledged next held received = answer (ack_refusal next held received) (confirms next held received)
 
--- an answer's number, and how many it frees
-abbrev pub ack_number : AckAnswer → ℕ
-ack_number (AckAnswer.Frees n) = 0
-ack_number (AckAnswer.Refused r) = r.0
-
-abbrev pub ack_freed : AckAnswer → ℕ
-ack_freed (AckAnswer.Frees n) = n
-ack_freed (AckAnswer.Refused r) = 0
+-- how many an answer frees
+abbrev pub ack_freed : Result ℕ Refusal → ℕ
+ack_freed a = result_unwrap_or a 0

@@ -1,12 +1,12 @@
 -- Opening starts data transfer: all counts 0, t3 set, other timers unset. It refuses 19, then 22.
-use Rattle.std.specs.Prelude.{ℕ, ◌+◌, false, Option, None, Some, eqb, ltb, replicate}
+use Rattle.std.specs.Prelude.{ℕ, ◌+◌, false, Option, None, Some, Ok, Err, eqb, ltb, replicate}
 use Rattle.laws.specs.Choice.{pick}
 use Rattle.elements.specs.Refusals.{refusal, outside_limits, clock_too_late}
+use Rattle.elements.specs.declared.refusals.Refusal.{Refusal}
 use Rattle.link_state.specs.Limits.{sound_settings}
 use Rattle.link_state.specs.declared.Settings.{Settings}
 use Rattle.link_state.specs.declared.Link.{Link}
 use Rattle.link_state.specs.declared.opening.OpenedLink.{OpenedLink}
-use Rattle.link_state.specs.declared.opening.OpenAnswer.{OpenAnswer}
 
 -- a deadline that is not set, and one that is due from a moment on
 abbrev pub unset : Option ℕ
@@ -26,7 +26,7 @@ fresh_link settings t3 clock =
         window = record { first = 0; held = 0; next = record { 0 = 0 } };
         receive = record { next = record { 0 = 0 }; unconfirmed = 0 };
         timers = record { t1u = unset; t2 = unset; t3 = t3; tests = 0 };
-        status = record { closed = false; reason = refusal 0 };
+        status = record { closed = false; reason = 0 };
         clock = clock;
       };
     }
@@ -40,16 +40,11 @@ unfoldable pub open_refusal : Settings → ℕ → ℕ
 open_refusal s now = pick (sound_settings s) (pick (ltb 281474976710655 now) clock_too_late 0) outside_limits
 
 -- beside a refusal the link is blank
-unfoldable pub refused_opening : ℕ → OpenedLink
-refused_opening r = record { link = blank_link; answer = OpenAnswer.Refused (refusal r) }
+unfoldable pub refused_opening : Refusal → OpenedLink
+refused_opening r = record { link = blank_link; answer = Err r }
 
 unfoldable pub opened : Settings → ℕ → OpenedLink
 opened s now =
     pick (eqb (open_refusal s now) 0)
-    (record { link = fresh_link s (set_for (now + s.t3)) now; answer = OpenAnswer.Opened })
-    (refused_opening (open_refusal s now))
-
--- an answer's number
-abbrev pub open_number : OpenAnswer → ℕ
-open_number OpenAnswer.Opened = 0
-open_number (OpenAnswer.Refused r) = r.0
+    (record { link = fresh_link s (set_for (now + s.t3)) now; answer = Ok tt })
+    (refused_opening (refusal (open_refusal s now)))

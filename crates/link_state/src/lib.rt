@@ -7,7 +7,6 @@ pub mod limits;
 pub mod opening;
 
 use apdu::frame::{ReceiveNumber, SendNumber};
-use elements::refusals::Refusal;
 
 // k and w of IEC 60870-5-104, p the greatest number that may wait, the times in milliseconds.
 #[derive(Clone, Copy)]
@@ -52,11 +51,11 @@ pub struct Timers {
     pub tests: u8,
 }
 
-// Whether the link has ended, and the refusal that ended it: none for a stop.
+// Whether the link has ended, and the number of the refusal that ended it: 0 for a stop.
 #[derive(Clone, Copy)]
 pub struct Status {
     pub closed: bool,
-    pub reason: Refusal,
+    pub reason: u8,
 }
 
 // The link without its ring.

@@ -1,6 +1,6 @@
 // The check of every call: 19, 20, 23, 24, 22 and 21, in this order.
 ghost use Rattle.std.specs.Prelude.{◌≡◌, ◌≤◌};
-ghost use Rattle.elements.specs.Refusals.{refusal};
+ghost use Rattle.elements.specs.Refusals.{answer};
 ghost use Rattle.link_state.specs.Limits.{sound_settings, sound_counts, sound_deadline, sound_timers, sound_times, sound_lengths, sound_link, call_refusal};
 
 use crate::{Link, Queue, Settings, State, Timers};
@@ -99,27 +99,27 @@ fn sound_link(l: Link) -> bool
     sound_times(l) & sound_lengths(s.queue) & sound_timers(s.timers, s.clock)
 }
 
-#[tactic(auto, unfolding(crate::specs::Limits::call_refusal))]
-pub fn check_call(l: Link, output: usize, pool: usize, moment: u64) -> Refusal
-    ensures { result ≡ refusal (call_refusal l output pool moment) }
+#[tactic(auto, unfolding(crate::specs::Limits::call_refusal, elements::specs::Refusals::refusal))]
+pub fn check_call(l: Link, output: usize, pool: usize, moment: u64) -> Result<(), Refusal>
+    ensures { result ≡ answer (call_refusal l output pool moment) tt }
 {
     if !sound_link(l) {
-        return Refusal::OUTSIDE_LIMITS;
+        return Err(Refusal::OutsideLimits);
     }
     if l.state.status.closed {
-        return Refusal::LINK_CLOSED;
+        return Err(Refusal::LinkClosed);
     }
     if output < MIN_OUTPUT {
-        return Refusal::LINK_OUTPUT_TOO_SHORT;
+        return Err(Refusal::LinkOutputTooShort);
     }
     if pool < MIN_POOL {
-        return Refusal::POOL_TOO_SHORT;
+        return Err(Refusal::PoolTooShort);
     }
     if MAX_CLOCK < moment {
-        return Refusal::CLOCK_TOO_LATE;
+        return Err(Refusal::ClockTooLate);
     }
     if moment < l.state.clock {
-        return Refusal::CLOCK_WENT_BACK;
+        return Err(Refusal::ClockWentBack);
     }
-    Refusal::NONE
+    Ok(())
 }

@@ -1,34 +1,16 @@
 // Opening a link: data transfer starts with all counts 0, t3 set, the other timers unset.
 ghost use Rattle.std.specs.Prelude.{◌≡◌};
-ghost use Rattle.elements.specs.Refusals.{refusal};
-ghost use Rattle.link_state.specs.Opening.{fresh_link, refused_opening, opened, open_number};
+ghost use Rattle.link_state.specs.Opening.{fresh_link, refused_opening, opened};
 
 use crate::{Link, Queue, Receive, Settings, State, Status, Timers, Window, limits};
 use apdu::frame::{ReceiveNumber, SendNumber};
 use elements::refusals::Refusal;
 
-#[derive(Clone, Copy)]
-pub enum OpenAnswer {
-    Opened,
-    Refused(Refusal),
-}
-
 // What opening answers; beside a refusal the link is all 0, clear and unset.
 #[derive(Clone, Copy)]
 pub struct OpenedLink {
     pub link: Link,
-    pub answer: OpenAnswer,
-}
-
-impl OpenAnswer {
-    pub fn refusal(self) -> Refusal
-        ensures { result ≡ refusal (open_number self) }
-    {
-        match self {
-            OpenAnswer::Opened => Refusal::NONE,
-            OpenAnswer::Refused(r) => r,
-        }
-    }
+    pub answer: Result<(), Refusal>,
 }
 
 // A link with nothing outstanding, waiting or received.
@@ -60,7 +42,7 @@ fn fresh(settings: Settings, t3: Option<u64>, clock: u64) -> Link
         },
         status: Status {
             closed: false,
-            reason: Refusal::NONE,
+            reason: 0,
         },
         clock,
     };
@@ -72,7 +54,7 @@ fn fresh(settings: Settings, t3: Option<u64>, clock: u64) -> Link
 
 #[tactic(auto, unfolding(crate::specs::Opening::refused_opening, crate::specs::Opening::blank_link))]
 fn refused(r: Refusal) -> OpenedLink
-    ensures { result ≡ refused_opening r.0 }
+    ensures { result ≡ refused_opening r }
 {
     let settings = Settings {
         k: 0,
@@ -85,7 +67,7 @@ fn refused(r: Refusal) -> OpenedLink
     let link = fresh(settings, None, 0);
     OpenedLink {
         link,
-        answer: OpenAnswer::Refused(r),
+        answer: Err(r),
     }
 }
 
@@ -93,14 +75,14 @@ pub fn open(settings: Settings, moment: u64) -> OpenedLink
     ensures { result ≡ opened settings moment }
 {
     if !limits::sound_settings(settings) {
-        return refused(Refusal::OUTSIDE_LIMITS);
+        return refused(Refusal::OutsideLimits);
     }
     if limits::MAX_CLOCK < moment {
-        return refused(Refusal::CLOCK_TOO_LATE);
+        return refused(Refusal::ClockTooLate);
     }
     let t3 = Some(moment + settings.t3);
     OpenedLink {
         link: fresh(settings, t3, moment),
-        answer: OpenAnswer::Opened,
+        answer: Ok(()),
     }
 }

@@ -8,12 +8,13 @@ use borrow.Author.Tests.{eqb-true}
 use lib.Dec.{eqb}
 use lib.ListN.{length, get_or}
 use lib.Seq.{sets}
-use Rattle.elements.specs.Refusals.{refusal}
+use Rattle.std.specs.Prelude.{Err}
+use Rattle.elements.specs.Refusals.{answer}
 use Rattle.elements.specs.declared.refusals.Refusal.{Refusal}
-use Rattle.elements.proofs.Refused.{some}
 use Rattle.link_state.specs.Limits.{call_refusal}
 use Rattle.link_state.specs.declared.Link.{Link}
 use Rattle.link_state.proofs.Sound.{Sound, Passed, passed, sound_state, sound_lengths_law, sound_times_law}
+use Rattle.link.proofs.Numbered.{refused_some}
 use Rattle.link.specs.declared.answers.Called.{Called}
 use Rattle.link.specs.declared.answers.Step.{Step}
 use Rattle.link.specs.Frames.{wire}
@@ -75,14 +76,14 @@ module _ (l : Link) (output pool now : ℕ) (e : call_refusal l output pool now 
 -- ---- what the call answers
 
 module _ (e : Event) (l : Link) (pool out : List ℕ) (now : ℕ) where
-  pub call_refused : {w : Refusal} {b : Bool} {a : Called} → w ≡ refusal (call_refusal l (length out) (length pool) now) → b ≡ eqb w.0 0 → b ≡ false → a ≡ refused_call l w
+  pub call_refused : {r : Refusal} {a : Called} → answer {A = Unit {0}} (call_refusal l (length out) (length pool) now) tt ≡ Err r → a ≡ refused_call l r
       → (a ≡ called_of (called e l pool (length out) now))
       × (pool ≡ (called e l pool (length out) now).pool)
       × (out ≡ sets out 0 (wire (called e l pool (length out) now).frames))
   unfolding called called_of answer_of refusing wire
-  call_refused is tested taken ends =
-      let stops = some (call_refusal l (length out) (length pool) now) is tested taken in
-      (ends ∙ rw stops (rw (stops, is)), rw stops, rw stops)
+  call_refused e ends =
+      let stops = refused_some _ _ e in
+      (ends ∙ rw stops.0 (rw (stops.0, stops.1)), rw stops.0, rw stops.0)
 
   module _ (passes : call_refusal l (length out) (length pool) now ≡ 0) {a : Called} {r : Step} {ts₁ out₁ : List ℕ} (ends : a ≡ call_of ts₁ r) where
     pub call_does : Does (event_outcome e l.state l.times pool now) out r ts₁ out₁

@@ -10,17 +10,19 @@ use lib.Seq.{sets}
 use Rattle.laws.specs.Choice.{pick}
 use Rattle.laws.specs.Numbers.{le_octets}
 use Rattle.laws.proofs.Lists.{sets_append}
+use Rattle.elements.specs.Refusals.{number}
+use Rattle.elements.specs.declared.refusals.Refusal.{Refusal}
 use Rattle.link_state.specs.declared.State.{State}
 use Rattle.link.specs.declared.answers.Made.{Made}
 use Rattle.link.specs.declared.answers.Step.{Step}
 use Rattle.apdu.specs.Control.{u_of, u_octet}
 use Rattle.apdu.specs.Writing.{start_octets, i_octets, s_octets, u_octets}
-use lib.Dec.{eqb}
 use Rattle.link.specs.Frames.{Frame, i_frame, s_frame, u_with, octets_of, wire, test_act}
 use Rattle.link.specs.Making.{Making, become, say, sent_of, confirm, confirmed_of, tested, tested_of, ending, hand_out, let_out, due, with_clock, shut}
 use Rattle.link.specs.Events.{start, accepting, closing, refusing}
 use Rattle.link.specs.Answering.{Makes, HandsOut, Answers, made_of, done_step, refused_step, step_for, answer_of}
 use Rattle.apdu.proofs.Answers.{i_long, s_long, u_long}
+use Rattle.link.proofs.Numbered.{some_number, numbered}
 use Rattle.link.proofs.Wires.{wire_append, wire_one}
 
 -- frames before those of a call in the making
@@ -150,12 +152,12 @@ pub answers_ending : (came more : Bool) (now : ℕ) (pool : List ℕ) {g : Makin
 answers_ending came more now pool {g} one same finished e =
     answers_accepting came pool (makes_then (ending_appends more now) one same (finished g.times)) e
 
-pub answers_closing : (k : ℕ) (s : State) (ts pool out : List ℕ) {r : Step}
-    → eqb k 0 ≡ false → r ≡ refused_step (shut k s) k → Answers (closing k s ts pool) out r out
+pub answers_closing : (k : Refusal) (s : State) (ts pool out : List ℕ) {r : Step}
+    → r ≡ refused_step (shut (number k) s) k → Answers (closing (number k) s ts pool) out r out
 unfolding closing step_for answer_of refused_step wire
-answers_closing k s ts pool out some e = record { step = rw some e; octets = refl }
+answers_closing k s ts pool out e = record { step = rw (some_number k, numbered k) e; octets = refl }
 
-pub answers_refusing : (k : ℕ) (s : State) (ts pool out : List ℕ) {r : Step}
-    → eqb k 0 ≡ false → r ≡ refused_step s k → Answers (refusing k s ts pool) out r out
+pub answers_refusing : (k : Refusal) (s : State) (ts pool out : List ℕ) {r : Step}
+    → r ≡ refused_step s k → Answers (refusing (number k) s ts pool) out r out
 unfolding refusing step_for answer_of refused_step wire
-answers_refusing k s ts pool out some e = record { step = rw some e; octets = refl }
+answers_refusing k s ts pool out e = record { step = rw (some_number k, numbered k) e; octets = refl }

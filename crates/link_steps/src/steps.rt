@@ -4,13 +4,14 @@ ghost use Rattle.std.proofs.lemmas.List.Edits.{sets};
 ghost use Rattle.apdu.specs.Writing.{start_octets, s_octets};
 ghost use Rattle.link.specs.Making.{freed_of, sent_of, confirmed_of, due, tested_of, ending, set_t1u, set_t3, start_t2, shut, hand_out};
 ghost use Rattle.link.specs.Events.{start};
+ghost use Rattle.elements.specs.Refusals.{number};
 ghost use Rattle.link_state.specs.Limits.{call_refusal};
 ghost use Rattle.link.specs.Answering.{CanRun, Ran, Comes, made_of, done_step, refused_step, refused_call, call_of, Makes, HandsOut, Timed, CanSend};
 
 use apdu::frame::SendNumber;
 use apdu::writing;
 use elements::refusals::Refusal;
-use link::answers::{Called, Done, LinkAnswer, Made, Step};
+use link::answers::{Called, Done, Made, Step};
 use link_state::{Link, Receive, State, Status, Window, limits};
 
 pub const STOP_ACT: u16 = 0x13;
@@ -25,31 +26,30 @@ pub const TEST_CON: u16 = 0x83;
 pub fn accept(m: Made, came: bool) -> Step
     ensures { result ≡ done_step m.state m.end came }
 {
-    let s = m.state;
-    let full = s.settings.k <= s.window.held;
+    let done = Done {
+        written: m.end,
+        full: m.state.settings.k <= m.state.window.held,
+        came,
+    };
     Step {
-        state: s,
-        answer: LinkAnswer::Done(Done {
-            written: m.end,
-            full,
-            came,
-        }),
+        state: m.state,
+        answer: Ok(done),
     }
 }
 
 #[tactic(auto, unfolding(link::specs::Answering::refused_step))]
 pub fn refuse(s: State, r: Refusal) -> Step
-    ensures { result ≡ refused_step s r.0 }
+    ensures { result ≡ refused_step s r }
 {
     Step {
         state: s,
-        answer: LinkAnswer::Refused(r),
+        answer: Err(r),
     }
 }
 
 #[tactic(auto, unfolding(link::specs::Making::shut))]
-pub fn end_link(mut s: State, reason: Refusal) -> State
-    ensures { result ≡ shut reason.0 s }
+pub fn end_link(mut s: State, reason: u8) -> State
+    ensures { result ≡ shut reason s }
 {
     s.status = Status {
         closed: true,
@@ -60,9 +60,9 @@ pub fn end_link(mut s: State, reason: Refusal) -> State
 
 // A refusal that ends the link: only the closed mark and the reason are set.
 pub fn close(s: State, r: Refusal) -> Step
-    ensures { result ≡ refused_step (shut r.0 s) r.0 }
+    ensures { result ≡ refused_step (shut (number r) s) r }
 {
-    refuse(end_link(s, r), r)
+    refuse(end_link(s, u8::from(r)), r)
 }
 
 // What the check of every call refuses.
@@ -71,7 +71,7 @@ pub fn refuse_call(l: Link, r: Refusal) -> Called
 {
     Called {
         link: l,
-        answer: LinkAnswer::Refused(r),
+        answer: Err(r),
     }
 }
 
@@ -97,9 +97,8 @@ pub fn call<F: FnOnce(State, &mut [u64], &mut [u8]) -> Step>(
     requires { call_refusal l (length out.old) pool moment ≡ 0 → CanRun F.FnOnce event l.state l.times out.old }
     ensures { Comes (call_refusal l (length out.old) pool moment) l (Ran F.FnOnce event l.state l.times out.old) out.old result out.new }
 {
-    let refused = limits::check_call(l, out.len(), pool, moment);
-    if !refused.is_none() {
-        return refuse_call(l, refused);
+    if let Err(r) = limits::check_call(l, out.len(), pool, moment) {
+        return refuse_call(l, r);
     }
     let mut times = l.times;
     let step = event(l.state, &mut times, out);

@@ -1,17 +1,18 @@
 -- The parts of a tick: what t2 and t3 due leave as it was. Assumes nothing.
 use Prim.Native.Nat.{ℕ, ◌≤◌}
 use mathlib.Core.Path.{◌≡◌, refl, sym, ap}
-use mathlib.Core.Bool.{Bool, true, false}
+use mathlib.Core.Bool.{Bool, true, false, ◌&&◌}
 use mathlib.Core.List.{List, append-nil}
 use native.Mathlib.Omega.{arith}
 use lib.ListN.{length}
 use Rattle.std.proofs.Common.{Option}
 use Rattle.laws.specs.Choice.{pick}
+use Rattle.laws.proofs.Choices.{picked}
 use Rattle.apdu.specs.Control.{u_of}
 use Rattle.link_state.specs.declared.State.{State}
 use Rattle.link.specs.Frames.{Frame, s_frame, u_with, test_act, octets_of, wire}
 use Rattle.link.specs.Making.{confirm, confirmed_of, tested, tested_of}
-use Rattle.link.specs.Events.{start, is_due, ticked_t2, ticked_t3}
+use Rattle.link.specs.Events.{start, is_due, t1i_due, too_many, tick_refusal, ticked_t2, ticked_t3}
 use Rattle.link.specs.Answering.{Calm}
 use Rattle.apdu.proofs.Answers.{s_long, u_long}
 use Rattle.link.proofs.Wires.{wire_one}
@@ -57,3 +58,11 @@ ticked_t3_appends t3 now g = go (is_due t3 now)
     go : (b : Bool) → pick b (tested now g) g ≡ after g.frames (pick b (tested now (start g.state g.times)) (start g.state g.times))
     go true = refl
     go false = ap (λ (fs : List Frame). record { state = g.state; times = g.times; frames = fs }) (sym (append-nil g.frames))
+
+-- what a tick refuses has a row
+pub tick_row : (s : State) (times : List ℕ) (now : ℕ) → tick_refusal s times now ≤ 33
+unfolding tick_refusal
+tick_row s times now =
+    picked (λ (n : ℕ). n ≤ 33) (is_due s.timers.t1u now) (omega arith)
+    (picked (λ (n : ℕ). n ≤ 33) (t1i_due s times now) (omega arith)
+    (picked (λ (n : ℕ). n ≤ 33) (is_due s.timers.t3 now && too_many s) (omega arith) (omega arith)))

@@ -4,7 +4,7 @@
 ghost use Rattle.std.specs.Prelude.{◌≡◌, ℕ, ◌+◌, ◌≤◌, length, List};
 ghost use Rattle.std.proofs.lemmas.List.Edits.{sets};
 ghost use Rattle.link.specs.Frames.{wire};
-ghost use Rattle.elements.specs.Refusals.{refusal};
+ghost use Rattle.elements.specs.Refusals.{answer};
 ghost use Rattle.link.specs.Events.{start, is_due, t1i_due, tick_refusal, ticked_t2, ticked_t3, on_stop, on_test, on_tick, called, stop, test, tick};
 ghost use Rattle.link.specs.Answering.{Answers, Makes, Calm, Aged, called_of};
 
@@ -30,7 +30,7 @@ fn on_test(s: State, out: &mut [u8], moment: u64) -> Step
     ensures { (ts ps : List ℕ) → Answers (on_test s ts ps moment) out.old result out.new }
 {
     if 2 < s.timers.tests {
-        return steps::close(s, Refusal::TOO_MANY_TESTS);
+        return steps::close(s, Refusal::TooManyTests);
     }
     let made = steps::send_test(s, &mut *out, 0, moment);
     let ended = steps::finish(made.state, out, made.end, false, moment);
@@ -55,20 +55,21 @@ fn oldest_is_due(s: State, times: &[u64], moment: u64) -> bool
     times[s.window.first] + s.settings.t1 <= moment
 }
 
-fn tick_refusal(s: State, times: &[u64], moment: u64) -> Refusal
+#[tactic(auto, unfolding(link::specs::Events::tick_refusal, link::specs::Events::too_many, elements::specs::Refusals::refusal))]
+fn check_tick(s: State, times: &[u64], moment: u64) -> Result<(), Refusal>
     requires { Aged s times.now }
-    ensures { result ≡ refusal (tick_refusal s times.now moment) }
+    ensures { result ≡ answer (tick_refusal s times.now moment) tt }
 {
     if is_due(s.timers.t1u, moment) {
-        return Refusal::U_TIMED_OUT;
+        return Err(Refusal::UTimedOut);
     }
     if oldest_is_due(s, times, moment) {
-        return Refusal::I_TIMED_OUT;
+        return Err(Refusal::ITimedOut);
     }
     if is_due(s.timers.t3, moment) & (2 < s.timers.tests) {
-        return Refusal::TOO_MANY_TESTS;
+        return Err(Refusal::TooManyTests);
     }
-    Refusal::NONE
+    Ok(())
 }
 
 // t2 due confirms.
@@ -97,9 +98,8 @@ fn on_tick(s: State, times: &[u64], out: &mut [u8], moment: u64) -> Step
     requires { Calm s (length out.old) moment × Aged s times.now }
     ensures { (ps : List ℕ) → Answers (on_tick s times.now ps moment) out.old result out.new }
 {
-    let refused = tick_refusal(s, times, moment);
-    if !refused.is_none() {
-        return steps::close(s, refused);
+    if let Err(r) = check_tick(s, times, moment) {
+        return steps::close(s, r);
     }
     let confirmed = tick_t2(s, &mut *out, moment);
     let tested = tick_t3(confirmed, s.timers.t3, &mut *out, moment);

@@ -9,9 +9,9 @@ use borrow.Author.Tests.{eqb-true}
 use Rattle.laws.specs.Choice.{pick}
 use Rattle.objects.specs.Kinds.{type_of, kind_of, kinds, among}
 use Rattle.objects.specs.declared.kinds.Kind.{Kind}
-use Rattle.objects.specs.declared.kinds.KindAnswer.TheVariants.{Carried}
+use Rattle.std.specs.Prelude.{Some}
 
-pub kind_type : (k : Kind) → kind_of (type_of k) ≡ Carried k
+pub kind_type : (k : Kind) → kind_of (type_of k) ≡ Some k
 kind_type Kind.MSpNa1 = refl
 kind_type Kind.MDpNa1 = refl
 kind_type Kind.MStNa1 = refl
@@ -26,15 +26,15 @@ kind_type Kind.CIcNa1 = refl
 kind_type Kind.CCiNa1 = refl
 kind_type Kind.CRdNa1 = refl
 
-among_type : (ks : List Kind) (t : ℕ) (k : Kind) → among ks t ≡ Carried k → t ≡ type_of k
+among_type : (ks : List Kind) (t : ℕ) (k : Kind) → among ks t ≡ Some k → t ≡ type_of k
 among_type [] t k e = let z : ◌≡◌ {A = ℕ} 0 1 = cc in absurd (omega arith)
 among_type (j ∷ ks) t k e = by (eqb t (type_of j)) refl e (λ g. among_type ks t k g)
   where
-    by : (b : Bool) → eqb t (type_of j) ≡ b → pick b (Carried j) (among ks t) ≡ Carried k → (among ks t ≡ Carried k → t ≡ type_of k) → t ≡ type_of k
+    by : (b : Bool) → eqb t (type_of j) ≡ b → pick b (Some j) (among ks t) ≡ Some k → (among ks t ≡ Some k → t ≡ type_of k) → t ≡ type_of k
     by true f g rest = let s : j ≡ k = cc in eqb-true t (type_of j) f ∙ ap type_of s
     by false f g rest = rest g
 
-pub type_kind : (t : ℕ) (k : Kind) → kind_of t ≡ Carried k → t ≡ type_of k
+pub type_kind : (t : ℕ) (k : Kind) → kind_of t ≡ Some k → t ≡ type_of k
 type_kind t k e = among_type kinds t k e
 
 pub same_kind : (k j : Kind) → type_of k ≡ type_of j → k ≡ j

@@ -1,7 +1,7 @@
 -- An element's octets to its value and back, by kind (IEC 60870-5-101, type identifications of document 01).
 use Rattle.std.specs.Prelude.{ℕ, List, [], ◌∷◌, ◌++◌, get_or}
 use Rattle.laws.specs.Numbers.{le_of, le_octets, signed_of, bits_of}
-use Rattle.elements.specs.Refusals.{octet_number, octet_in, pair_number, pair_first, pair_second}
+use Rattle.elements.specs.Refusals.{answer_number, octet_in, pair_first, pair_second}
 use Rattle.elements.specs.Quality.{qds_of, qds_octet, seq_qd_of, seq_qd_answer}
 use Rattle.elements.specs.Points.{siq_of, siq_octet, diq_of, diq_octet}
 use Rattle.elements.specs.Steps.{vti_of, vti_answer}
@@ -46,14 +46,14 @@ element_octets CRdNa1 = []
 unfoldable pub value_refusal : Value → ℕ
 value_refusal (MSpNa1 q) = 0
 value_refusal (MDpNa1 q) = 0
-value_refusal (MStNa1 v) = pair_number (vti_answer v)
+value_refusal (MStNa1 v) = answer_number (vti_answer v)
 value_refusal (MBoNa1 q n) = 0
 value_refusal (MMeNa1 n q) = 0
 value_refusal (MMeNb1 n q) = 0
 value_refusal (MMeNc1 q n) = 0
-value_refusal (MItNa1 n q) = octet_number (seq_qd_answer q)
+value_refusal (MItNa1 n q) = answer_number (seq_qd_answer q)
 value_refusal (MMeNd1 n) = 0
-value_refusal (MEiNa1 c) = octet_number (coi_answer c)
+value_refusal (MEiNa1 c) = answer_number (coi_answer c)
 value_refusal (CIcNa1 n) = 0
 value_refusal (CCiNa1 n) = 0
 value_refusal CRdNa1 = 0

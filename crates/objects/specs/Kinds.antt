@@ -1,5 +1,5 @@
 -- The carried types of document 01, each a kind of its own: its number, and its element's octets.
-use Rattle.std.specs.Prelude.{ℕ, List, [], ◌∷◌, length, eqb}
+use Rattle.std.specs.Prelude.{ℕ, List, [], ◌∷◌, length, eqb, Option, Some, None}
 use Rattle.laws.specs.Bits.{Layout, whole}
 use Rattle.laws.specs.Choice.{pick}
 use Rattle.elements.specs.Refusals.{type_not_carried}
@@ -8,8 +8,6 @@ use Rattle.elements.specs.Points.{siq_layout, diq_layout}
 use Rattle.elements.specs.Steps.{vti_layout}
 use Rattle.objects.specs.declared.kinds.Kind.{Kind}
 use Rattle.objects.specs.declared.kinds.Kind.TheVariants.{MSpNa1, MDpNa1, MStNa1, MBoNa1, MMeNa1, MMeNb1, MMeNc1, MItNa1, MMeNd1, MEiNa1, CIcNa1, CCiNa1, CRdNa1}
-use Rattle.objects.specs.declared.kinds.KindAnswer.{KindAnswer}
-use Rattle.objects.specs.declared.kinds.KindAnswer.TheVariants.{Carried, NotCarried}
 use Rattle.objects.specs.declared.values.Value.{Value}
 
 -- the type's number
@@ -34,18 +32,18 @@ kinds =
     MSpNa1 ∷ MDpNa1 ∷ MStNa1 ∷ MBoNa1 ∷ MMeNa1 ∷ MMeNb1 ∷ MMeNc1 ∷ MItNa1 ∷ MMeNd1 ∷ MEiNa1 ∷ CIcNa1 ∷ CCiNa1 ∷ CRdNa1 ∷ []
 
 -- the kind of the list that has this number, if there is one
-abbrev pub among : List Kind → ℕ → KindAnswer
-among [] t = NotCarried
-among (k ∷ ks) t = pick (eqb t (type_of k)) (Carried k) (among ks t)
+abbrev pub among : List Kind → ℕ → Option Kind
+among [] t = None
+among (k ∷ ks) t = pick (eqb t (type_of k)) (Some k) (among ks t)
 
 -- the kind of a type number
-abbrev pub kind_of : ℕ → KindAnswer
+abbrev pub kind_of : ℕ → Option Kind
 kind_of t = among kinds t
 
--- an answer's number: 11 for a type that is not carried
-abbrev pub kind_number : KindAnswer → ℕ
-kind_number (Carried k) = 0
-kind_number NotCarried = type_not_carried
+-- the refusal's number: 11 for a type that is not carried
+abbrev pub kind_number : Option Kind → ℕ
+kind_number (Some k) = 0
+kind_number None = type_not_carried
 
 -- the octets of an element, in wire order, each with the fields that it keeps. Sizes and reserved bits follow from it;
 -- that reading and writing an element agree with it is shown (`again` and `sized` of `ElementLevel`)

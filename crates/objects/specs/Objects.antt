@@ -1,15 +1,15 @@
 -- IEC 60870-5-101: one information object, an address of three octets and an element, and what is refused of it.
-use Rattle.std.specs.Prelude.{ℕ, ◌+◌, Bool, false, List, ◌++◌, drop, ltb, eqb}
+use Rattle.std.specs.Prelude.{ℕ, ◌+◌, Bool, false, List, ◌++◌, drop, ltb, eqb, Result, Ok, Err}
 use Rattle.laws.specs.Choice.{pick, ◌then◌}
 use Rattle.laws.specs.Numbers.{le_of, le_octets}
 use Rattle.elements.specs.Refusals.{refusal, wrong_address, wrong_kind}
+use Rattle.elements.specs.declared.refusals.Refusal.{Refusal}
 use Rattle.elements.specs.declared.information_elements.Spi.TheVariants as Spi
 use Rattle.objects.specs.Kinds.{type_of, value_kind}
 use Rattle.objects.specs.Elements.{element_of, element_octets, value_refusal}
 use Rattle.objects.specs.declared.kinds.Kind.{Kind}
 use Rattle.objects.specs.declared.values.Value.{Value}
 use Rattle.objects.specs.declared.Object.{Object}
-use Rattle.objects.specs.declared.ObjectAnswer.{ObjectAnswer}
 
 -- address 0 and a clear SIQ: what stands past the count
 abbrev pub blank : Object
@@ -24,17 +24,13 @@ unfoldable pub object_octets : Object → List ℕ
 object_octets o = le_octets 3 o.address ++ element_octets o.value
 
 -- reading: 14 where the address runs past three octets, as one in a sequence can
-unfoldable pub object_answer : ℕ → Value → ObjectAnswer
-object_answer a v = pick (ltb 16777215 a) (ObjectAnswer.Refused (refusal wrong_address)) (ObjectAnswer.Object (record { address = a; value = v }))
+unfoldable pub object_answer : ℕ → Value → Result Object Refusal
+object_answer a v = pick (ltb 16777215 a) (Err (refusal wrong_address)) (Ok (record { address = a; value = v }))
 
--- an answer's number, 0 for an object, and its object, blank where it was refused
-abbrev pub object_number : ObjectAnswer → ℕ
-object_number (ObjectAnswer.Object o) = 0
-object_number (ObjectAnswer.Refused r) = r.0
-
-abbrev pub object_given : ObjectAnswer → Object
-object_given (ObjectAnswer.Object o) = o
-object_given (ObjectAnswer.Refused r) = blank
+-- the answer's object, blank where it was refused
+abbrev pub object_given : Result Object Refusal → Object
+object_given (Ok o) = o
+object_given (Err r) = blank
 
 -- writing: 16 where the value is not of the type's kind
 unfoldable pub kind_refusal : Kind → Value → ℕ

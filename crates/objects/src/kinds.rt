@@ -1,68 +1,58 @@
-// The carried types of document 01: each is a kind of its own, named as the Rust names its payload.
+// The carried types of document 01: each is a kind of its own, named as the Rust names its payload, with its number.
 ghost use Rattle.std.specs.Prelude.{◌≡◌, ◌≤◌};
+ghost use Rattle.std.specs.Option.{ok_or};
+ghost use Rattle.elements.specs.declared.refusals.Refusal.TheVariants.{TypeNotCarried};
 ghost use Rattle.objects.specs.Kinds.{kind_of, type_of, size_of};
 
-#[derive(Clone, Copy)]
+use elements::refusals::Refusal;
+
+#[derive(Clone, Copy, Debug, PartialEq, Eq)]
 pub enum Kind {
-    MSpNa1,
-    MDpNa1,
-    MStNa1,
-    MBoNa1,
-    MMeNa1,
-    MMeNb1,
-    MMeNc1,
-    MItNa1,
-    MMeNd1,
-    MEiNa1,
-    CIcNa1,
-    CCiNa1,
-    CRdNa1,
+    MSpNa1 = 1,
+    MDpNa1 = 3,
+    MStNa1 = 5,
+    MBoNa1 = 7,
+    MMeNa1 = 9,
+    MMeNb1 = 11,
+    MMeNc1 = 13,
+    MItNa1 = 15,
+    MMeNd1 = 21,
+    MEiNa1 = 70,
+    CIcNa1 = 100,
+    CCiNa1 = 101,
+    CRdNa1 = 102,
 }
 
-#[derive(Clone, Copy)]
-pub enum KindAnswer {
-    Carried(Kind),
-    NotCarried,
-}
+impl TryFrom<u8> for Kind {
+    type Error = Refusal;
 
-pub fn kind_of(number: u8) -> KindAnswer
-    ensures { result ≡ kind_of number }
-{
-    match number {
-        1 => KindAnswer::Carried(Kind::MSpNa1),
-        3 => KindAnswer::Carried(Kind::MDpNa1),
-        5 => KindAnswer::Carried(Kind::MStNa1),
-        7 => KindAnswer::Carried(Kind::MBoNa1),
-        9 => KindAnswer::Carried(Kind::MMeNa1),
-        11 => KindAnswer::Carried(Kind::MMeNb1),
-        13 => KindAnswer::Carried(Kind::MMeNc1),
-        15 => KindAnswer::Carried(Kind::MItNa1),
-        21 => KindAnswer::Carried(Kind::MMeNd1),
-        70 => KindAnswer::Carried(Kind::MEiNa1),
-        100 => KindAnswer::Carried(Kind::CIcNa1),
-        101 => KindAnswer::Carried(Kind::CCiNa1),
-        102 => KindAnswer::Carried(Kind::CRdNa1),
-        _ => KindAnswer::NotCarried,
+    ghost try_from_gives = { λ number answer. answer ≡ ok_or (kind_of number) TypeNotCarried };
+
+    fn try_from(number: u8) -> Result<Kind, Refusal> {
+        match number {
+            1 => Ok(Kind::MSpNa1),
+            3 => Ok(Kind::MDpNa1),
+            5 => Ok(Kind::MStNa1),
+            7 => Ok(Kind::MBoNa1),
+            9 => Ok(Kind::MMeNa1),
+            11 => Ok(Kind::MMeNb1),
+            13 => Ok(Kind::MMeNc1),
+            15 => Ok(Kind::MItNa1),
+            21 => Ok(Kind::MMeNd1),
+            70 => Ok(Kind::MEiNa1),
+            100 => Ok(Kind::CIcNa1),
+            101 => Ok(Kind::CCiNa1),
+            102 => Ok(Kind::CRdNa1),
+            _ => Err(Refusal::TypeNotCarried),
+        }
     }
 }
 
-pub fn type_of(kind: Kind) -> u8
-    ensures { result ≡ type_of kind }
-{
-    match kind {
-        Kind::MSpNa1 => 1,
-        Kind::MDpNa1 => 3,
-        Kind::MStNa1 => 5,
-        Kind::MBoNa1 => 7,
-        Kind::MMeNa1 => 9,
-        Kind::MMeNb1 => 11,
-        Kind::MMeNc1 => 13,
-        Kind::MItNa1 => 15,
-        Kind::MMeNd1 => 21,
-        Kind::MEiNa1 => 70,
-        Kind::CIcNa1 => 100,
-        Kind::CCiNa1 => 101,
-        Kind::CRdNa1 => 102,
+impl From<Kind> for u8 {
+    ghost from_gives = { λ kind number. number ≡ type_of kind };
+
+    fn from(kind: Kind) -> u8 {
+        kind as u8
     }
 }
 

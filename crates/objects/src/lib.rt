@@ -3,8 +3,8 @@
 
 ghost use Rattle.std.specs.Prelude.{◌≡◌};
 ghost use Rattle.std.proofs.lemmas.List.Edits.{sets};
-ghost use Rattle.elements.specs.Refusals.{refusal};
-ghost use Rattle.objects.specs.Objects.{blank, object_of, object_octets, object_answer, object_number, kind_refusal, address_refusal, object_refusal};
+ghost use Rattle.elements.specs.Refusals.{answer};
+ghost use Rattle.objects.specs.Objects.{blank, object_of, object_octets, object_answer, kind_refusal, address_refusal, object_refusal};
 
 pub mod kinds;
 pub mod values;
@@ -18,17 +18,10 @@ use values::Value;
 // An address has three octets.
 pub const MAX_ADDRESS: u32 = 16_777_215;
 
-#[derive(Clone, Copy)]
+#[derive(Clone, Copy, Debug, PartialEq, Eq)]
 pub struct Object {
     pub address: u32,
     pub value: Value,
-}
-
-// What reading an object answers.
-#[derive(Clone, Copy)]
-pub enum ObjectAnswer {
-    Object(Object),
-    Refused(Refusal),
 }
 
 // Stands past the count of a record: address 0 and a clear SIQ. The value is a counter first, which fills all of its
@@ -77,74 +70,51 @@ pub fn put_object(out: &mut [u8], object: Object)
 }
 
 // A read object, or 14 where its address does not fit three octets.
-#[tactic(auto, unfolding(crate::specs::Objects::object_answer))]
-pub fn object_at(address: u32, value: Value) -> ObjectAnswer
+#[tactic(auto, unfolding(crate::specs::Objects::object_answer, elements::specs::Refusals::refusal))]
+pub fn object_at(address: u32, value: Value) -> Result<Object, Refusal>
     ensures { result ≡ object_answer address value }
 {
     if MAX_ADDRESS < address {
-        return ObjectAnswer::Refused(Refusal::WRONG_ADDRESS);
+        return Err(Refusal::WrongAddress);
     }
-    ObjectAnswer::Object(Object { address, value })
+    Ok(Object { address, value })
 }
 
-impl ObjectAnswer {
-    pub fn refusal(self) -> Refusal
-        ensures { result ≡ refusal (object_number self) }
-    {
-        match self {
-            ObjectAnswer::Object(_) => Refusal::NONE,
-            ObjectAnswer::Refused(r) => r,
-        }
-    }
-}
-
-#[tactic(auto, unfolding(crate::specs::Objects::kind_refusal))]
-fn kind_refusal(kind: Kind, value: Value) -> Refusal
-    ensures { result ≡ refusal (kind_refusal kind value) }
+#[tactic(auto, unfolding(crate::specs::Objects::kind_refusal, elements::specs::Refusals::refusal))]
+fn check_kind(kind: Kind, value: Value) -> Result<(), Refusal>
+    ensures { result ≡ answer (kind_refusal kind value) tt }
 {
-    if kinds::type_of(values::kind_of_value(value)) == kinds::type_of(kind) {
-        return Refusal::NONE;
+    if Kind::from(value) == kind {
+        return Ok(());
     }
-    Refusal::WRONG_KIND
+    Err(Refusal::WrongKind)
 }
 
-#[tactic(auto, unfolding(crate::specs::Objects::address_refusal))]
-fn address_refusal(sequence: bool, first: u32, index: usize, address: u32) -> Refusal
-    ensures { result ≡ refusal (address_refusal sequence first index address) }
+#[tactic(auto, unfolding(crate::specs::Objects::address_refusal, elements::specs::Refusals::refusal))]
+fn check_address(sequence: bool, first: u32, index: usize, address: u32) -> Result<(), Refusal>
+    ensures { result ≡ answer (address_refusal sequence first index address) tt }
 {
-    if MAX_ADDRESS < address {
-        return Refusal::WRONG_ADDRESS;
+    let follows = first <= address && (address - first) as usize == index;
+    if address <= MAX_ADDRESS && (!sequence || follows) {
+        Ok(())
+    } else {
+        Err(Refusal::WrongAddress)
     }
-    if !sequence {
-        return Refusal::NONE;
-    }
-    if address < first {
-        return Refusal::WRONG_ADDRESS;
-    }
-    if (address - first) as usize == index {
-        return Refusal::NONE;
-    }
-    Refusal::WRONG_ADDRESS
 }
 
 // What is refused of object `index` of a record whose first object has the address `first`: 16, 14, 15.
-pub fn object_refusal(
+#[tactic(auto, unfolding(crate::specs::Objects::object_refusal))]
+pub fn check_object(
     kind: Kind,
     sequence: bool,
     first: u32,
     index: usize,
     object: Object,
-) -> Refusal
-    ensures { result ≡ refusal (object_refusal kind sequence first index object) }
+) -> Result<(), Refusal>
+    ensures { result ≡ answer (object_refusal kind sequence first index object) tt }
 {
     let value = object.value;
-    let wrong_kind = kind_refusal(kind, value);
-    if !wrong_kind.is_none() {
-        return wrong_kind;
-    }
-    let wrong_address = address_refusal(sequence, first, index, object.address);
-    if !wrong_address.is_none() {
-        return wrong_address;
-    }
-    values::value_refusal(value)
+    check_kind(kind, value)?;
+    check_address(sequence, first, index, object.address)?;
+    values::check_value(value)
 }

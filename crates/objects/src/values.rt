@@ -2,7 +2,7 @@
 ghost use Rattle.std.specs.Prelude.{◌≡◌, get_or, [], ◌∷◌, ◌++◌};
 ghost use Rattle.std.proofs.lemmas.List.Edits.{sets};
 ghost use Rattle.laws.specs.Numbers.{le_of, le_octets, signed_of, bits_of};
-ghost use Rattle.elements.specs.Refusals.{refusal};
+ghost use Rattle.elements.specs.Refusals.{answer};
 ghost use Rattle.elements.specs.Quality.{qds_of, qds_octet};
 ghost use Rattle.objects.specs.Kinds.{value_kind};
 ghost use Rattle.objects.specs.Elements.{element_of, element_octets, value_refusal};
@@ -15,7 +15,7 @@ use elements::refusals::Refusal;
 
 // A bit string and an f32 are their 32 bits; the commands 100 and 101 are their octet. The quality stands before
 // 32 bits: so a value takes 12 octets of memory and an object 16 (docs/DECISIONS.md, decision 39).
-#[derive(Clone, Copy)]
+#[derive(Clone, Copy, Debug, PartialEq, Eq)]
 pub enum Value {
     MSpNa1(Siq),
     MDpNa1(Diq),
@@ -32,23 +32,25 @@ pub enum Value {
     CRdNa1,
 }
 
-pub fn kind_of_value(value: Value) -> Kind
-    ensures { result ≡ value_kind value }
-{
-    match value {
-        Value::MSpNa1(_) => Kind::MSpNa1,
-        Value::MDpNa1(_) => Kind::MDpNa1,
-        Value::MStNa1(_) => Kind::MStNa1,
-        Value::MBoNa1(_, _) => Kind::MBoNa1,
-        Value::MMeNa1(_, _) => Kind::MMeNa1,
-        Value::MMeNb1(_, _) => Kind::MMeNb1,
-        Value::MMeNc1(_, _) => Kind::MMeNc1,
-        Value::MItNa1(_, _) => Kind::MItNa1,
-        Value::MMeNd1(_) => Kind::MMeNd1,
-        Value::MEiNa1(_) => Kind::MEiNa1,
-        Value::CIcNa1(_) => Kind::CIcNa1,
-        Value::CCiNa1(_) => Kind::CCiNa1,
-        Value::CRdNa1 => Kind::CRdNa1,
+impl From<Value> for Kind {
+    ghost from_gives = { λ value kind. kind ≡ value_kind value };
+
+    fn from(value: Value) -> Kind {
+        match value {
+            Value::MSpNa1(_) => Kind::MSpNa1,
+            Value::MDpNa1(_) => Kind::MDpNa1,
+            Value::MStNa1(_) => Kind::MStNa1,
+            Value::MBoNa1(_, _) => Kind::MBoNa1,
+            Value::MMeNa1(_, _) => Kind::MMeNa1,
+            Value::MMeNb1(_, _) => Kind::MMeNb1,
+            Value::MMeNc1(_, _) => Kind::MMeNc1,
+            Value::MItNa1(_, _) => Kind::MItNa1,
+            Value::MMeNd1(_) => Kind::MMeNd1,
+            Value::MEiNa1(_) => Kind::MEiNa1,
+            Value::CIcNa1(_) => Kind::CIcNa1,
+            Value::CCiNa1(_) => Kind::CCiNa1,
+            Value::CRdNa1 => Kind::CRdNa1,
+        }
     }
 }
 
@@ -93,16 +95,23 @@ pub fn read_element(s: &[u8], kind: Kind) -> Value
 }
 
 // Refusal 15 of a value with a field that its octet cannot hold.
-#[tactic(auto, unfolding(crate::specs::Elements::value_refusal))]
-pub fn value_refusal(value: Value) -> Refusal
-    ensures { result ≡ refusal (value_refusal value) }
+#[tactic(auto, unfolding(crate::specs::Elements::value_refusal, elements::specs::Refusals::refusal))]
+pub fn check_value(value: Value) -> Result<(), Refusal>
+    ensures { result ≡ answer (value_refusal value) tt }
 {
     match value {
-        Value::MStNa1(vti) => vti.to_bytes().refusal(),
-        Value::MItNa1(_, sqd) => sqd.to_byte().refusal(),
-        Value::MEiNa1(coi) => coi.to_byte().refusal(),
-        _ => Refusal::NONE,
+        Value::MStNa1(vti) => {
+            vti.to_bytes()?;
+        }
+        Value::MItNa1(_, sqd) => {
+            sqd.to_byte()?;
+        }
+        Value::MEiNa1(coi) => {
+            coi.to_byte()?;
+        }
+        _ => {}
     }
+    Ok(())
 }
 
 #[tactic(auto, unfolding(laws::specs::Numbers::le_octets))]
@@ -125,9 +134,9 @@ fn put_i16_and_quality(out: &mut [u8], n: i16, qds: Qds)
 fn put_vti(out: &mut [u8], vti: Vti)
     ensures { out.new ≡ sets out.old 0 (element_octets (Value.MStNa1 vti)) }
 {
-    let pair = vti.to_bytes();
-    laws::put_octet(out, 0, pair.first());
-    laws::put_octet(out, 1, pair.second());
+    let (first, second) = vti.to_bytes().unwrap_or((0, 0));
+    laws::put_octet(out, 0, first);
+    laws::put_octet(out, 1, second);
 }
 
 // A value's octets at the start of a slice, as far as it reaches; a field that is refused is written 0.
@@ -143,9 +152,13 @@ pub fn put_element(out: &mut [u8], value: Value)
         Value::MMeNa1(n, qds) => put_i16_and_quality(out, n, qds),
         Value::MMeNb1(n, qds) => put_i16_and_quality(out, n, qds),
         Value::MMeNc1(qds, bits) => put_bits_and_octet(out, bits, qds.to_byte()),
-        Value::MItNa1(n, sqd) => put_bits_and_octet(out, n.to_bits(), sqd.to_byte().octet()),
+        Value::MItNa1(n, sqd) => put_bits_and_octet(
+            out,
+            n.to_bits(),
+            sqd.to_byte().unwrap_or(0),
+        ),
         Value::MMeNd1(n) => laws::put_le::<2>(out, 0, n.to_bits() as u32),
-        Value::MEiNa1(coi) => laws::put_octet(out, 0, coi.to_byte().octet()),
+        Value::MEiNa1(coi) => laws::put_octet(out, 0, coi.to_byte().unwrap_or(0)),
         Value::CIcNa1(n) => laws::put_octet(out, 0, n),
         Value::CCiNa1(n) => laws::put_octet(out, 0, n),
         Value::CRdNa1 => {}

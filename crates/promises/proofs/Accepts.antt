@@ -15,10 +15,11 @@ use Rattle.objects.specs.declared.kinds.Kind.{Kind}
 use Rattle.asdu.specs.Header.{sequence_in, count_in, cause_in, header_in, header_answer}
 use Rattle.asdu.specs.Reading.{objects_refusal, read_refusal}
 use Rattle.asdu.specs.declared.header.Header.{Header}
-use Rattle.asdu.specs.declared.header.HeaderAnswer.{HeaderAnswer}
 use Rattle.asdu.proofs.Walk.{plain_refusal, sequence_low}
 use Rattle.promises.specs.Asdus.{Laid, Accepts}
-use Rattle.promises.proofs.Bodies.{head_octets, Fields, header_passes, after_head, Headed, head_read, read_passes, Accepted, accepted, rising}
+use Rattle.promises.proofs.Bodies.{head_octets, Fields, header_passes, after_head, Headed, head_read, Accepted, accepted, rising}
+use Rattle.asdu.proofs.Checked.{read_passes}
+use Rattle.std.specs.Prelude.{Ok}
 
 -- ---- what is laid out is accepted
 
@@ -40,9 +41,9 @@ takes s l o =
       address = l.address;
     } in
     let f : Fields h = record { counted = l.counted; listed = l.listed; addressed = l.addressed } in
-    let answer : header_answer s ≡ HeaderAnswer.Header h = ap header_answer l.laid ∙ header_passes h l.body f l.long l.short l.some in
+    let answer : header_answer s ≡ Ok h = ap header_answer l.laid ∙ header_passes h l.body f l.long l.short l.some in
     let first : le_of 3 (drop 6 s) ≡ le_of 3 l.body = ap (λ (x : List ℕ). le_of 3 (drop 6 x)) l.laid ∙ ap (le_of 3) (after_head h l.body) in
-    read_passes h s answer (objects_pass h s l.sequence refl o (λ q. rw first (l.rising q)))
+    read_passes s h answer (objects_pass h s l.sequence refl o (λ q. rw first (l.rising q)))
 
 -- ---- what is accepted is laid out
 

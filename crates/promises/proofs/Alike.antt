@@ -9,13 +9,12 @@ use lib.Seq.{get_or-take}
 use Rattle.objects.specs.Kinds.{kind_of}
 use Rattle.objects.specs.Objects.{blank}
 use Rattle.objects.specs.declared.kinds.Kind.{Kind}
-use Rattle.objects.specs.declared.kinds.KindAnswer.{KindAnswer}
-use Rattle.objects.specs.declared.kinds.KindAnswer.TheVariants.{Carried, NotCarried}
 use Rattle.objects.specs.declared.Object.{Object}
 use Rattle.asdu.specs.Writing.{own_objects, first_address, first_refusal, write_refusal_by, write_refusal, header_octets, address_octets, asdu_octets}
 use Rattle.asdu.specs.declared.Asdu.{Asdu}
 use Rattle.asdu.proofs.Lengths.{writable}
 use Rattle.promises.specs.Asdus.{Same, WritesAlike}
+use Rattle.std.specs.Prelude.{Option, Some, None}
 
 module _ (a b : Asdu) (same : Same a b) where
   -- the first object is one of its own, where there is one
@@ -41,10 +40,10 @@ module _ (a b : Asdu) (same : Same a b) where
           ∙ sym (none_refused k b.sequence (first_address b) (own_objects b) (sym same.objects_same ∙ own))
       by (suc n) e = cc (same.sequence_same, first_same (omega arith), same.objects_same)
 
-  kind_alike : (q : KindAnswer) (room : ℕ) → write_refusal_by q a room ≡ write_refusal_by q b room
+  kind_alike : (q : Option Kind) (room : ℕ) → write_refusal_by q a room ≡ write_refusal_by q b room
   unfolding write_refusal_by
-  kind_alike NotCarried room = refl
-  kind_alike (Carried k) room = cc (same.sequence_same, same.count_same, objects_alike k)
+  kind_alike None room = refl
+  kind_alike (Some k) room = cc (same.sequence_same, same.count_same, objects_alike k)
 
   refused_alike : (room : ℕ) → write_refusal a room ≡ write_refusal b room
   unfolding write_refusal

@@ -1,39 +1,35 @@
 -- The header in the octets of an ASDU, and what an accepted list of octets shows. Assumes nothing.
 use Prim.Native.Nat.{ℕ, ◌+◌, ◌<◌, ◌≤◌}
 use mathlib.Core.Path.{◌≡◌, refl, sym, ap, ◌∙◌}
-use mathlib.Core.Bool.{Bool, true, false, not}
+use mathlib.Core.Bool.{Bool, true, not}
 use mathlib.Core.List.{List, [], ◌∷◌, ◌++◌}
 use native.Mathlib.Omega.{arith}
 use native.Mathlib.Decide.{dec_le}
 use lib.ListN.{length, get_or, take, drop, replicate, length-drop}
 use lib.Seq.{drop_at}
 use lib.Dec.{eqb, ltb}
-use borrow.Author.Tests.{eqb-true, eqb-false, ltb-false, not-false, le-ltb, eq-eqb}
+use borrow.Author.Tests.{eqb-true, ltb-false, not-false, le-ltb, eq-eqb}
 use Rattle.laws.specs.Bits.{field, flag, num, octet}
-use Rattle.laws.specs.Choice.{pick}
 use Rattle.laws.specs.Lists.{Octets, padded}
 use Rattle.laws.specs.Numbers.{le_of, le_octets}
 use Rattle.laws.proofs.Layouts.{fields_octet, flag_num, num_flag, num_fits, kept_whole}
 use Rattle.laws.proofs.Choices.{passed, held, both}
 use Rattle.laws.proofs.Lists.{octet_fits, octets_drop, take_padded}
 use Rattle.laws.proofs.Numbers.{reads_back, writes_again, le_fits}
-use Rattle.elements.specs.Refusals.{refusal}
 use Rattle.objects.specs.Kinds.{type_of, kind_of, size_of}
 use Rattle.objects.specs.Objects.{blank}
 use Rattle.objects.specs.declared.kinds.Kind.{Kind}
-use Rattle.objects.specs.declared.kinds.KindAnswer.{KindAnswer}
-use Rattle.objects.specs.declared.kinds.KindAnswer.TheVariants.{Carried, NotCarried}
 use Rattle.objects.specs.declared.Object.{Object}
 use Rattle.objects.proofs.TypeNumbers.{kind_type, type_kind}
-use Rattle.asdu.specs.Header.{count_layout, cause_layout, cause_listed, needed, sequence_in, count_in, cause_in, header_in, early_refusal, layout_refusal, header_refusal_by, header_refusal, header_by, header_answer}
+use Rattle.asdu.specs.Header.{count_layout, cause_layout, cause_listed, needed, sequence_in, count_in, cause_in, header_in, early_refusal, layout_refusal, header_refusal_by, header_refusal, header_answer}
 use Rattle.asdu.specs.Records.{filled, blanks, asdu_of}
-use Rattle.asdu.specs.Reading.{objects_refusal, objects_in, refusal_by, read_refusal, read_body, read_asdu}
-use Rattle.asdu.specs.declared.Answer.{Answer}
+use Rattle.asdu.specs.Reading.{objects_refusal, objects_in, objects_refusal_by, read_refusal, read_asdu}
 use Rattle.asdu.specs.declared.header.Header.{Header}
-use Rattle.asdu.specs.declared.header.HeaderAnswer.{HeaderAnswer}
+use Rattle.asdu.proofs.Checked.{read_passes, checked_is}
 use Rattle.asdu.proofs.Starts.{accepts}
 use Rattle.asdu.proofs.Walk.{sequence_high}
 use Rattle.asdu.proofs.Lengths.{some_of, some_passes, listed_small}
+use Rattle.std.specs.Prelude.{Option, Some, None, Ok}
 
 -- ---- the header's octets
 
@@ -83,7 +79,7 @@ pub record Headed (k : Kind) (s : List ℕ) : Type 0 where
   pub short : length s ≤ 249
   pub six : 6 ≤ length s
   pub listed : cause_listed (cause_in s) ≡ true
-  pub kind : kind_of (get_or s 0 0) ≡ Carried k
+  pub kind : kind_of (get_or s 0 0) ≡ Some k
   pub long : length s ≡ needed k (sequence_in s) (count_in s)
   pub some : sequence_in s ≡ true → (1 ≤ count_in s) × (1 ≤ size_of k)
 
@@ -96,7 +92,7 @@ unfolding layout_refusal
 laid_out k s h = rw (eq-eqb (length s) (needed k (sequence_in s) (count_in s)) h.long) (some_passes (sequence_in s) (count_in s) (size_of k) h.some)
 
 -- they are all that is asked of the header
-pub header_taken : (k : Kind) (s : List ℕ) → Headed k s → header_answer s ≡ HeaderAnswer.Header (header_in k s)
+pub header_taken : (k : Kind) (s : List ℕ) → Headed k s → header_answer s ≡ Ok (header_in k s)
 header_taken k s h = sym (accepts s k (starts s h.short h.six h.listed) h.kind (laid_out k s h))
 
 -- ---- six octets made of a header's fields, and any octets after them
@@ -144,7 +140,7 @@ module _ (h : Header) (body : List ℕ) (f : Fields h) where
 
   -- and is taken, if the rest is as long as it says
   pub header_passes : 6 + length body ≡ needed h.kind h.sequence h.count → 6 + length body ≤ 249
-      → (h.sequence ≡ true → (1 ≤ h.count) × (1 ≤ size_of h.kind)) → header_answer (head_octets h ++ body) ≡ HeaderAnswer.Header h
+      → (h.sequence ≡ true → (1 ≤ h.count) × (1 ≤ size_of h.kind)) → header_answer (head_octets h ++ body) ≡ Ok h
   header_passes l s some =
       let n = count_back h.count h.sequence f.counted in
       let c = cause_back h.cause h.negative h.test f.listed in
@@ -156,7 +152,7 @@ module _ (h : Header) (body : List ℕ) (f : Fields h) where
         long = long_head h body ∙ (l ∙ sym (ap (λ (q : Bool). needed h.kind q (count_in (head_octets h ++ body))) n.sequence ∙ ap (needed h.kind h.sequence) n.count));
         some = λ e. let (x, y) = some (sym n.sequence ∙ e) in (rw n.count x, y);
       })
-      ∙ ap HeaderAnswer.Header header_back
+      ∙ ap Ok header_back
 
 -- the header read from octets makes their first six again
 pub head_read : (k : Kind) (s : List ℕ) → Octets s → Headed k s → head_octets (header_in k s) ≡ take 6 s
@@ -169,14 +165,10 @@ head_read k s o h =
 -- ---- what reading gives
 
 -- reading octets whose header is taken, and of whose objects none is refused
-pub read_passes : (h : Header) (s : List ℕ) → header_answer s ≡ HeaderAnswer.Header h → objects_refusal h s ≡ 0 → read_refusal s ≡ 0
-unfolding read_refusal
-read_passes h s e o = rw e o
-
-pub read_is : (h : Header) (s : List ℕ) → header_answer s ≡ HeaderAnswer.Header h → objects_refusal h s ≡ 0
-    → read_asdu s ≡ record { asdu = asdu_of h (filled (objects_in h s)); answer = Answer.Accepted }
-unfolding read_asdu read_body
-read_is h s e o = rw (e, o)
+pub read_is : (h : Header) (s : List ℕ) → header_answer s ≡ Ok h → objects_refusal h s ≡ 0
+    → read_asdu s ≡ record { asdu = asdu_of h (filled (objects_in h s)); answer = Ok tt }
+unfolding read_asdu
+read_is h s e o = rw (checked_is s h e o, read_passes s h e o)
 
 -- of such a record, its own objects, and what stands past them
 pub own_back : (n : ℕ) (os : List Object) → length os ≡ n → take n (filled os) ≡ os
@@ -208,10 +200,10 @@ started s h =
     let d = passed (ltb (length s) 6) 8 _ c.1 in
     record { short = ltb-false 249 (length s) a.0; six = ltb-false (length s) 6 d.0; listed = not-false (cause_listed (cause_in s)) c.0 }
 
-by_kind : (f : KindAnswer) (s : List ℕ) → kind_of (get_or s 0 0) ≡ f → Started s → header_refusal_by f s ≡ 0 → refusal_by (header_by f s) s ≡ 0 → (k : Kind) × Accepted k s
+by_kind : (f : Option Kind) (s : List ℕ) → kind_of (get_or s 0 0) ≡ f → Started s → header_refusal_by f s ≡ 0 → objects_refusal_by f s ≡ 0 → (k : Kind) × Accepted k s
 unfolding layout_refusal
-by_kind NotCarried s f t h g = absurd (omega arith)
-by_kind (Carried k) s f t h g =
+by_kind None s f t h g = absurd (omega arith)
+by_kind (Some k) s f t h g =
     let p = held (eqb (length s) (needed k (sequence_in s) (count_in s))) 11 _ h in
     let l = eqb-true (length s) (needed k (sequence_in s) (count_in s)) p.0 in (
       k,
@@ -221,15 +213,9 @@ by_kind (Carried k) s f t h g =
       },
     )
 
-header_zero : (s : List ℕ) → read_refusal s ≡ 0 → (header_refusal s ≡ 0) × (refusal_by (header_by (kind_of (get_or s 0 0)) s) s ≡ 0)
-unfolding read_refusal header_answer
-header_zero s h = by (eqb (header_refusal s) 0) refl h
-  where
-    by : (b : Bool) → eqb (header_refusal s) 0 ≡ b
-        → refusal_by (pick b (header_by (kind_of (get_or s 0 0)) s) (HeaderAnswer.Refused (refusal (header_refusal s)))) s ≡ 0
-        → (header_refusal s ≡ 0) × (refusal_by (header_by (kind_of (get_or s 0 0)) s) s ≡ 0)
-    by true e g = (eqb-true (header_refusal s) 0 e, g)
-    by false e g = absurd (eqb-false (header_refusal s) 0 e g)
+header_zero : (s : List ℕ) → read_refusal s ≡ 0 → (header_refusal s ≡ 0) × (objects_refusal_by (kind_of (get_or s 0 0)) s ≡ 0)
+unfolding read_refusal
+header_zero s h = both (header_refusal s) (objects_refusal_by (kind_of (get_or s 0 0)) s) h
 
 header_both : (s : List ℕ) → header_refusal s ≡ 0 → (early_refusal s ≡ 0) × (header_refusal_by (kind_of (get_or s 0 0)) s ≡ 0)
 unfolding header_refusal

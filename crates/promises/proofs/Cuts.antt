@@ -7,28 +7,28 @@ use native.Mathlib.Omega.{arith}
 use native.Mathlib.Nat.{le_refl}
 use lib.ListN.{length, get_or, take, drop, length-append, length-drop, take-append-drop}
 use lib.Seq.{get_or-take, length-take-le, take-append_seam, drop-append_seam, drop-drop}
+use Rattle.std.specs.Prelude.{Option, Some, None, Result, Ok, Err}
+use Rattle.elements.specs.Refusals.{number}
 use Rattle.elements.specs.declared.refusals.Refusal.{Refusal}
 use Rattle.assembly.specs.Start.{start_answer}
 use Rattle.assembly.specs.Streams.{End, rest, refused, StreamOutcome, no_frames, handed, outcome_by, stream_from, stream, joined}
-use Rattle.assembly.specs.declared.start.StartAnswer.{StartAnswer}
-use Rattle.assembly.specs.declared.start.StartAnswer.TheVariants.{Whole, More, Refused}
 use Rattle.assembly.proofs.Sights.{few_more, frame_of, bad_of}
 use Rattle.promises.specs.Streams.{IsFrame, AllFrames, Unfinished, few, Refuses, left_over, Ends, Cuts, later, handed_all, Outcomes, OneOutcome}
-use Rattle.promises.proofs.Starts.{frame_whole, unfinished_more, more_unfinished, refuses_refused, refused_refuses}
+use Rattle.promises.proofs.Starts.{frame_whole, unfinished_more, more_unfinished, refuses_refused, refused_refuses, refuses_number}
 
 -- ---- a stream by what stands at its start
 
-pub stream_more : (most at : ℕ) (s : List ℕ) → start_answer s ≡ More → stream_from most at s ≡ no_frames (rest s)
+pub stream_more : (most at : ℕ) (s : List ℕ) → start_answer s ≡ Ok None → stream_from most at s ≡ no_frames (rest s)
 stream_more zero at s e = refl
-stream_more (suc most) at s e = ap (λ (a : StartAnswer). outcome_by a at s (stream_from most)) e
+stream_more (suc most) at s e = ap (λ (a : Result (Option ℕ) Refusal). outcome_by a at s (stream_from most)) e
 
-pub stream_refused : (most at : ℕ) (s : List ℕ) (r : Refusal) → length s ≤ most → start_answer s ≡ Refused r → stream_from most at s ≡ no_frames (refused r.0 at)
+pub stream_refused : (most at : ℕ) (s : List ℕ) (r : Refusal) → length s ≤ most → start_answer s ≡ Err r → stream_from most at s ≡ no_frames (refused (number r) at)
 stream_refused zero at s r l e = let b = bad_of _ _ _ r e in absurd (omega (arith, b.enough))
-stream_refused (suc most) at s r l e = ap (λ (a : StartAnswer). outcome_by a at s (stream_from most)) e
+stream_refused (suc most) at s r l e = ap (λ (a : Result (Option ℕ) Refusal). outcome_by a at s (stream_from most)) e
 
 -- a frame, and the stream of what follows it
-pub stream_whole : (most at : ℕ) (s : List ℕ) (n : ℕ) → start_answer s ≡ Whole n → stream_from (suc most) at s ≡ handed (take n s) (stream_from most (at + n) (drop n s))
-stream_whole most at s n e = ap (λ (a : StartAnswer). outcome_by a at s (stream_from most)) e
+pub stream_whole : (most at : ℕ) (s : List ℕ) (n : ℕ) → start_answer s ≡ Ok (Some n) → stream_from (suc most) at s ≡ handed (take n s) (stream_from most (at + n) (drop n s))
+stream_whole most at s n e = ap (λ (a : Result (Option ℕ) Refusal). outcome_by a at s (stream_from most)) e
 
 -- ---- nothing is lost, each part is a frame, and the frames end where they must
 
@@ -38,7 +38,7 @@ record From (all s : List ℕ) (o : StreamOutcome) : Type 0 where
   whole : AllFrames o.frames
   ends : Ends o.end all
 
-pub is_frame : (s : List ℕ) (n : ℕ) → start_answer s ≡ Whole n → IsFrame (take n s)
+pub is_frame : (s : List ℕ) (n : ℕ) → start_answer s ≡ Ok (Some n) → IsFrame (take n s)
 is_frame s n e =
     let f = frame_of _ _ _ n e in
     let big : 6 ≤ n = omega (arith, f.size, f.shape.least) in
@@ -57,10 +57,10 @@ module _ (all : List ℕ) where
   from (suc most) at s l e = by (λ n. from most (at + n) (drop n s)) (start_answer s) refl
     where
       by : ((n : ℕ) → length (drop n s) ≤ most → drop (at + n) all ≡ drop n s → From all (drop n s) (stream_from most (at + n) (drop n s)))
-          → (a : StartAnswer) → start_answer s ≡ a → From all s (outcome_by a at s (stream_from most))
-      by next More g = record { same = refl; whole = tt; ends = more_unfinished s g }
-      by next (Refused r) g = record { same = e; whole = tt; ends = refused_refuses (drop at all) r (ap (λ (x : List ℕ). start_answer x) e ∙ g) }
-      by next (Whole n) g =
+          → (a : Result (Option ℕ) Refusal) → start_answer s ≡ a → From all s (outcome_by a at s (stream_from most))
+      by next (Ok None) g = record { same = refl; whole = tt; ends = more_unfinished s g }
+      by next (Err r) g = record { same = e; whole = tt; ends = refused_refuses (drop at all) r (ap (λ (x : List ℕ). start_answer x) e ∙ g) }
+      by next (Ok (Some n)) g =
           let f = frame_of _ _ _ n g in
           let fewer : length (drop n s) ≤ most = omega (arith, length-drop n s, f.size, f.enough) in
           let rest = next n fewer (sym (drop-drop n at all) ∙ ap (drop n) e) in
@@ -86,7 +86,8 @@ unfinished_rests r u = stream_more (length r) 0 r (unfinished_more r u)
 
 refuses_stops : (r : List ℕ) (n : ℕ) → Refuses r n → stream r ≡ no_frames (refused n 0)
 unfolding stream
-refuses_stops r n k = stream_refused (length r) 0 r _ (le_refl _) (refuses_refused r n k)
+refuses_stops r n k =
+    stream_refused (length r) 0 r _ (le_refl _) (refuses_refused r n k) ∙ ap (λ (m : ℕ). no_frames (refused m 0)) (refuses_number r n k)
 
 -- ---- a stream that begins with frames
 
@@ -100,11 +101,11 @@ stream_moved zero k n at s l h = let e = few_more (length s) _ _ (omega arith) i
 stream_moved (suc m) k n at s l h = by (stream_moved m) k (start_answer s) h refl
   where
     by : ((k n at : ℕ) (s : List ℕ) → length s ≤ m → length s ≤ k → stream_from m (n + at) s ≡ moved n (stream_from k at s))
-        → (k : ℕ) (a : StartAnswer) → length s ≤ k → start_answer s ≡ a → stream_from (suc m) (n + at) s ≡ moved n (stream_from k at s)
-    by next k More h e = stream_more (suc m) (n + at) s e ∙ sym (ap (moved n) (stream_more k at s e))
-    by next k (Refused r) h e = stream_refused (suc m) (n + at) s r l e ∙ sym (ap (moved n) (stream_refused k at s r h e))
-    by next zero (Whole c) h e = let f = frame_of _ _ _ c e in absurd (omega (arith, f.enough))
-    by next (suc k) (Whole c) h e =
+        → (k : ℕ) (a : Result (Option ℕ) Refusal) → length s ≤ k → start_answer s ≡ a → stream_from (suc m) (n + at) s ≡ moved n (stream_from k at s)
+    by next k (Ok None) h e = stream_more (suc m) (n + at) s e ∙ sym (ap (moved n) (stream_more k at s e))
+    by next k (Err r) h e = stream_refused (suc m) (n + at) s r l e ∙ sym (ap (moved n) (stream_refused k at s r h e))
+    by next zero (Ok (Some c)) h e = let f = frame_of _ _ _ c e in absurd (omega (arith, f.enough))
+    by next (suc k) (Ok (Some c)) h e =
         let f = frame_of _ _ _ c e in
         let fewer = length-drop c s in
         let place : n + at + c ≡ n + (at + c) = omega arith in

@@ -4,41 +4,35 @@ use mathlib.Core.Path.{◌≡◌, refl, sym, ap, subst, ◌∙◌}
 use mathlib.Core.Bool.{Bool, true, false, ◌&&◌, ◌||◌}
 use mathlib.Core.List.{List, [], ◌++◌}
 use native.Mathlib.Omega.{arith}
-use borrow.Author.Tests.{eqb-true, eqb-false, ltb-false, eq-eqb, ne_eqb, le-leb, lt-leb}
+use borrow.Author.Tests.{eqb-true, ltb-false, eq-eqb, ne_eqb, le-leb, lt-leb}
 use lib.ListN.{length, get_or, drop}
 use lib.Dec.{eqb, leb, ltb}
 use Rattle.laws.specs.Choice.{pick}
 use Rattle.laws.specs.Lists.{Octets}
-use Rattle.elements.specs.Refusals.{refusal, queue_full, not_plain_form, wrong_receive_number, wrong_send_number, u_not_answered, too_many_tests}
-use Rattle.asdu.specs.Header.{header_answer}
-use Rattle.asdu.specs.Records.{no_asdu, answer_number, asdu_of, filled, refused_with}
-use Rattle.asdu.specs.Reading.{objects_refusal, objects_in, read_body, read_by, read_asdu}
-use Rattle.asdu.specs.Writing.{write_refusal, write_answer, written, write_number}
-use Rattle.asdu.specs.Plain.{plain_answer, plain_number}
+use Rattle.std.specs.Prelude.{Result, Ok, Err}
+use Rattle.elements.specs.declared.refusals.Refusal.{Refusal}
+use Rattle.elements.specs.Refusals.{number, refusal, answer_number, queue_full, not_plain_form, wrong_receive_number, wrong_send_number, u_not_answered, too_many_tests}
+use Rattle.objects.specs.Kinds.{kind_of}
+use Rattle.asdu.specs.Header.{header_by}
+use Rattle.asdu.specs.Records.{no_asdu}
+use Rattle.asdu.specs.Reading.{read_refusal, checked_header, record_by, read_asdu}
+use Rattle.asdu.specs.Writing.{write_refusal, write_answer, written}
+use Rattle.asdu.specs.Plain.{plain_answer}
 use Rattle.asdu.specs.declared.Asdu.{Asdu}
-use Rattle.asdu.specs.declared.Answer.TheVariants as Answer
-use Rattle.asdu.specs.declared.PlainAnswer.{PlainAnswer}
-use Rattle.asdu.specs.declared.WriteAnswer.TheVariants as WriteAnswer
 use Rattle.asdu.specs.declared.header.Header.{Header}
-use Rattle.asdu.specs.declared.header.HeaderAnswer.{HeaderAnswer}
-use Rattle.asdu.proofs.Passed.{plain_refused}
 use Rattle.apdu.specs.Control.{number_at, u_of, u_octet}
-use Rattle.apdu.specs.Reading.{frame_answer, frame_number, asdu_part_by, asdu_part}
+use Rattle.apdu.specs.Reading.{frame_answer, asdu_part_by, asdu_part}
 use Rattle.apdu.specs.Writing.{answer_for, output_for}
 use Rattle.apdu.specs.declared.frame.UFrame.{UFrame}
-use Rattle.apdu.specs.declared.frame.FrameAnswer.{FrameAnswer}
 use Rattle.apdu.proofs.Shapes.{number_fits, Shape, i_shape, s_shape, u_shape, refused_shape, shape}
-use Rattle.assembly.specs.Picking.{pick_answer, pick_number, pick_part_by, pick_part}
-use Rattle.assembly.specs.Topping.{top_up_answer, top_up_number, moved_in, topped}
-use Rattle.assembly.specs.Stepping.{step_answer, step_number, step_moved, step_carry}
-use Rattle.assembly.specs.declared.picking.PickAnswer.{PickAnswer}
-use Rattle.assembly.specs.declared.topping.TopUpAnswer.{TopUpAnswer}
-use Rattle.assembly.specs.declared.stepping.StepAnswer.{StepAnswer}
+use Rattle.assembly.specs.Picking.{pick_answer, pick_part_by, pick_part}
+use Rattle.assembly.specs.Topping.{top_up_answer, moved_in, topped}
+use Rattle.assembly.specs.Stepping.{step_answer, step_moved, step_carry}
+use Rattle.assembly.specs.declared.Pick.{Pick}
+use Rattle.assembly.specs.declared.Step.{Step}
 use Rattle.link_state.specs.Acknowledging.{confirms, acknowledged}
 use Rattle.link_state.specs.Limits.{call_refusal}
-use Rattle.link_state.specs.Opening.{set_for, fresh_link, blank_link, open_refusal, refused_opening, opened, open_number}
-use Rattle.link_state.specs.declared.acknowledging.AckAnswer.TheVariants as AckAnswer
-use Rattle.link_state.specs.declared.opening.OpenAnswer.TheVariants as OpenAnswer
+use Rattle.link_state.specs.Opening.{set_for, fresh_link, blank_link, open_refusal, refused_opening, opened}
 use Rattle.link_state.specs.declared.Settings.{Settings}
 use Rattle.link_state.specs.declared.State.{State}
 use Rattle.link_state.specs.declared.Link.{Link}
@@ -47,9 +41,11 @@ use Rattle.link.specs.Frames.{wire, stop_act, stop_con, test_act, test_con}
 use Rattle.link.specs.Making.{Making, with_clock, window_open, window_full, become, confirmed_of, confirm, due, ending, shut}
 use Rattle.link.specs.Events.{Outcome, refusing, closing, accepting, s_freeing, on_s, i_freeing, on_i, test_acted, test_confirmed, on_u, on_answer, on_frame, send_plain, send_by, on_send, on_stop, too_many, on_test, is_due, t1i_due, tick_refusal, on_tick, Event, frame, send, stop, test, tick, event_outcome, called}
 use Rattle.link.specs.Answering.{answer_of, called_of, link_full, link_came}
-use Rattle.link.specs.declared.answers.LinkAnswer.TheVariants as LinkAnswer
 use Rattle.link_meaning.specs.Meaning.{OctetsIn}
 use Rattle.promises.specs.Demand3.{Call, outcome_of, entry_of, framed, brings}
+use Rattle.link.specs.declared.answers.Done.{Done}
+use Rattle.elements.proofs.Refused.{number_some}
+use Rattle.promises.proofs.Numbered.{called_most}
 use Rattle.promises.specs.Demand1.{closes, closed_by, is_i, more_to_come, LinkCall, Demand1Level}
 use Rattle.promises.proofs.Answered.{answers}
 use Rattle.promises.proofs.Acknowledged.{ack_is}
@@ -57,83 +53,79 @@ use Rattle.promises.proofs.Ranges.{read_most, frame_most}
 use Rattle.promises.proofs.Demand3Pool.{pool_is}
 use Rattle.promises.proofs.Demand3.{number_is}
 use Rattle.promises.proofs.Demand3Runs.{Range, none, from_19_to_24, first_range}
+use Rattle.apdu.specs.declared.frame.Frame.TheVariants.{I, S, U}
+use Rattle.apdu.specs.declared.frame.Frame.{Frame}
+use Rattle.asdu.specs.declared.Form.{Form}
+use Rattle.asdu.specs.declared.Form.TheVariants.{Plain, Reserved}
 
 -- ---- reading, writing, assembling, opening
 
-read_body_law : (h : Header) (s : List ℕ) → 0 < answer_number (read_body h s).answer → (read_body h s).asdu ≡ no_asdu
-unfolding read_body
-read_body_law h s = by (eqb (objects_refusal h s) 0)
+reading : (s : List ℕ) → 0 < answer_number (read_asdu s).answer → (read_asdu s).asdu ≡ no_asdu
+unfolding read_asdu checked_header
+reading s = by (eqb (read_refusal s) 0)
   where
-    by : (t : Bool) → 0 < answer_number (pick t (record { asdu = asdu_of h (filled (objects_in h s)); answer = Answer.Accepted }) (refused_with (objects_refusal h s))).answer
-        → (pick t (record { asdu = asdu_of h (filled (objects_in h s)); answer = Answer.Accepted }) (refused_with (objects_refusal h s))).asdu ≡ no_asdu
+    by : (t : Bool) → 0 < answer_number (pick {A = Result (Unit {0}) Refusal} t (Ok tt) (Err (refusal (read_refusal s))))
+        → record_by (pick {A = Result Header Refusal} t (header_by (kind_of (get_or s 0 0)) s) (Err (refusal (read_refusal s)))) s ≡ no_asdu
     by true p = absurd (omega arith)
     by false p = refl
 
-read_by_law : (a : HeaderAnswer) (s : List ℕ) → 0 < answer_number (read_by a s).answer → (read_by a s).asdu ≡ no_asdu
-read_by_law (HeaderAnswer.Refused r) s p = refl
-read_by_law (HeaderAnswer.Header h) s p = read_body_law h s p
-
-reading : (s : List ℕ) → 0 < answer_number (read_asdu s).answer → (read_asdu s).asdu ≡ no_asdu
-unfolding read_asdu
-reading s p = read_by_law (header_answer s) s p
-
-opening : (s : Settings) (now : ℕ) → 0 < open_number (opened s now).answer → (opened s now).link ≡ blank_link
+opening : (s : Settings) (now : ℕ) → 0 < answer_number (opened s now).answer → (opened s now).link ≡ blank_link
 unfolding opened refused_opening
 opening s now = by (eqb (open_refusal s now) 0)
   where
     by : (t : Bool)
-        → 0 < open_number (pick t (record { link = fresh_link s (set_for (now + s.t3)) now; answer = OpenAnswer.Opened }) (refused_opening (open_refusal s now))).answer
-        → (pick t (record { link = fresh_link s (set_for (now + s.t3)) now; answer = OpenAnswer.Opened }) (refused_opening (open_refusal s now))).link ≡ blank_link
+        → 0 < answer_number (pick t (record { link = fresh_link s (set_for (now + s.t3)) now; answer = Ok tt }) (refused_opening (refusal (open_refusal s now)))).answer
+        → (pick t (record { link = fresh_link s (set_for (now + s.t3)) now; answer = Ok tt }) (refused_opening (refusal (open_refusal s now)))).link ≡ blank_link
     by true p = absurd (omega arith)
     by false p = refl
 
-part_by : (a : FrameAnswer) (f : List ℕ) → 0 < frame_number a → asdu_part_by a f ≡ []
-part_by (FrameAnswer.I s r) f p = absurd (omega arith)
-part_by (FrameAnswer.S r) f p = refl
-part_by (FrameAnswer.U u) f p = refl
-part_by (FrameAnswer.Refused r) f p = refl
+part_by : (a : Result Frame Refusal) (f : List ℕ) → 0 < answer_number a → asdu_part_by a f ≡ []
+part_by (Ok (I s r)) f p = absurd (omega arith)
+part_by (Ok (S r)) f p = refl
+part_by (Ok (U u)) f p = refl
+part_by (Err r) f p = refl
 
-frame_part : (f : List ℕ) → 0 < frame_number (frame_answer f) → asdu_part f ≡ []
+frame_part : (f : List ℕ) → 0 < answer_number (frame_answer f) → asdu_part f ≡ []
 unfolding asdu_part
 frame_part f p = part_by (frame_answer f) f p
 
-picked_by : (a : PickAnswer) (carry chunk : List ℕ) → 0 < pick_number a → pick_part_by a carry chunk ≡ []
-picked_by (PickAnswer.Carry n) carry chunk p = absurd (omega arith)
-picked_by (PickAnswer.Chunk n) carry chunk p = absurd (omega arith)
-picked_by PickAnswer.More carry chunk p = refl
-picked_by (PickAnswer.Refused r) carry chunk p = refl
+picked_by : (a : Result Pick Refusal) (carry chunk : List ℕ) → 0 < answer_number a → pick_part_by a carry chunk ≡ []
+picked_by (Ok (Pick.Carry n)) carry chunk p = absurd (omega arith)
+picked_by (Ok (Pick.Chunk n)) carry chunk p = absurd (omega arith)
+picked_by (Ok Pick.More) carry chunk p = refl
+picked_by (Err r) carry chunk p = refl
 
-picked_part : (carry : List ℕ) (held : ℕ) (chunk : List ℕ) → 0 < pick_number (pick_answer carry held chunk) → pick_part carry held chunk ≡ []
+picked_part : (carry : List ℕ) (held : ℕ) (chunk : List ℕ) → 0 < answer_number (pick_answer carry held chunk) → pick_part carry held chunk ≡ []
 unfolding pick_part
 picked_part carry held chunk p = picked_by (pick_answer carry held chunk) carry chunk p
 
-asdu_output : (a : Asdu) (out : List ℕ) → 0 < write_number (write_answer a (length out)) → written a out ≡ out
+asdu_output : (a : Asdu) (out : List ℕ) → 0 < answer_number (write_answer a (length out)) → written a out ≡ out
 unfolding written
 asdu_output a out p = rw (ne_eqb (write_refusal a (length out)) 0 (λ z. omega (arith, answers.writing a (length out))))
 
-frame_output : (refused : ℕ) (octets out : List ℕ) → 0 < write_number (answer_for refused octets) → output_for refused octets out ≡ out
+frame_output : (refused : ℕ) (octets out : List ℕ) → 0 < answer_number (answer_for refused octets) → output_for refused octets out ≡ out
 unfolding answer_for output_for
 frame_output refused octets out = by (eqb refused 0)
   where
-    by : (t : Bool) → 0 < write_number (pick t (WriteAnswer.Octets (length octets)) (WriteAnswer.Refused (refusal refused))) → pick t (octets ++ drop (length octets) out) out ≡ out
+    by : (t : Bool) → 0 < answer_number (pick {A = Result ℕ Refusal} t (Ok (length octets)) (Err (refusal refused))) → pick t (octets ++ drop (length octets) out) out ≡ out
     by true p = absurd (omega arith)
     by false p = refl
 
-moved_none : (a : TopUpAnswer) → 0 < top_up_number a → moved_in a ≡ 0
-moved_none (TopUpAnswer.Moved m) p = absurd (omega arith)
-moved_none (TopUpAnswer.Refused r) p = refl
+moved_none : (a : Result ℕ Refusal) → 0 < answer_number a → moved_in a ≡ 0
+moved_none (Ok m) p = absurd (omega arith)
+moved_none (Err r) p = refl
 
-topped_carry : (carry : List ℕ) (held : ℕ) (chunk : List ℕ) → 0 < top_up_number (top_up_answer carry held chunk) → topped carry held chunk ≡ carry
+topped_carry : (carry : List ℕ) (held : ℕ) (chunk : List ℕ) → 0 < answer_number (top_up_answer carry held chunk) → topped carry held chunk ≡ carry
 unfolding topped
 topped_carry carry held chunk p = rw (moved_none (top_up_answer carry held chunk) p)
 
-stepped_none : (a : StepAnswer) → 0 < step_number a → step_moved a ≡ 0
-stepped_none (StepAnswer.Chunk n) p = refl
-stepped_none (StepAnswer.Carry m n) p = absurd (omega arith)
-stepped_none (StepAnswer.More m) p = absurd (omega arith)
-stepped_none (StepAnswer.Refused r) p = refl
+stepped_none : (a : Result Step Refusal) → 0 < answer_number a → step_moved a ≡ 0
+stepped_none (Ok (Step.Chunk n)) p = refl
+stepped_none (Ok (Step.Carry m n)) p = absurd (omega arith)
+stepped_none (Ok (Step.More m)) p = absurd (omega arith)
+stepped_none (Err r) p = refl
 
-stepped_carry : (carry : List ℕ) (held : ℕ) (chunk : List ℕ) → 0 < step_number (step_answer carry held chunk) → step_carry carry held chunk ≡ carry
+stepped_carry : (carry : List ℕ) (held : ℕ) (chunk : List ℕ) → 0 < answer_number (step_answer carry held chunk) → step_carry carry held chunk ≡ carry
 unfolding step_carry
 stepped_carry carry held chunk p = rw (stepped_none (step_answer carry held chunk) p)
 
@@ -205,14 +197,14 @@ module _ (s : State) (times pool : List ℕ) (now : ℕ) where
     held_low = let h = sound.held_k in let k = sound.k_high in omega arith
 
     s_ending : is_i (brings came_in) ≡ false → (t : Bool) (d : ℕ)
-        → Ending came_in s times pool now (s_freeing (pick t (AckAnswer.Frees d) (AckAnswer.Refused (refusal wrong_receive_number))) s times pool more now)
-    unfolding s_freeing accepting
+        → Ending came_in s times pool now (s_freeing (pick {A = Result ℕ Refusal} t (Ok d) (Err (refusal wrong_receive_number))) s times pool more now)
+    unfolding s_freeing accepting refusal
     s_ending is true d = accepted refl (sym is) (ending_clock more now _) (λ z m. (settled_by more now _ m).most)
     s_ending is false d = ended wrong_receive_number (shuts came_in 27 (omega arith) (omega arith)) (omega arith) (omega arith) refl
 
     i_ending : is_i (brings came_in) ≡ true → (t : Bool) (d : ℕ)
-        → Ending came_in s times pool now (i_freeing (pick t (AckAnswer.Frees d) (AckAnswer.Refused (refusal wrong_receive_number))) s times pool more now)
-    unfolding i_freeing accepting
+        → Ending came_in s times pool now (i_freeing (pick {A = Result ℕ Refusal} t (Ok d) (Err (refusal wrong_receive_number))) s times pool more now)
+    unfolding i_freeing accepting refusal
     i_ending is true d = accepted refl (sym is) (ending_clock more now _) (λ z m. (settled_by more now _ m).most)
     i_ending is false d = ended wrong_receive_number (shuts came_in 27 (omega arith) (omega arith)) (omega arith) (omega arith) refl
 
@@ -229,19 +221,19 @@ module _ (s : State) (times pool : List ℕ) (now : ℕ) where
         (by_test (eqb (u_octet u) stop_con) (accepted refl (sym is) refl over)
         (ended u_not_answered (shuts came_in 29 (omega arith) (omega arith)) (omega arith) (omega arith) refl))))
 
-    by_answer : {a : FrameAnswer} → frame_answer f ≡ a → Ending came_in s times pool now (on_answer a s times pool more now) → Ending came_in s times pool now (on_frame f more s times pool now)
+    by_answer : {a : Result Frame Refusal} → frame_answer f ≡ a → Ending came_in s times pool now (on_answer a s times pool more now) → Ending came_in s times pool now (on_frame f more s times pool now)
     unfolding on_frame
     by_answer g x = rw g x
 
-    brings_is : {a : FrameAnswer} → frame_answer f ≡ a → is_i (brings came_in) ≡ is_i (framed a)
-    brings_is g = ap (λ (x : FrameAnswer). is_i (framed x)) g
+    brings_is : {a : Result Frame Refusal} → frame_answer f ≡ a → is_i (brings came_in) ≡ is_i (framed a)
+    brings_is g = ap (λ (x : Result Frame Refusal). is_i (framed x)) g
 
     -- what the receive number does
     confirmed : ℕ
     confirmed = confirms s.window.next.0 s.window.held (number_at 4 f)
 
     acknowledges : acknowledged s.window.next.0 s.window.held (number_at 4 f)
-        ≡ pick (leb confirmed s.window.held) (AckAnswer.Frees confirmed) (AckAnswer.Refused (refusal wrong_receive_number))
+        ≡ pick (leb confirmed s.window.held) (Ok confirmed) (Err (refusal wrong_receive_number))
     unfolding confirmed
     acknowledges = ack_is s.window.next.0 s.window.held (number_at 4 f) sound.next_high held_low (number_fits f 4 o)
 
@@ -258,9 +250,9 @@ module _ (s : State) (times pool : List ℕ) (now : ℕ) where
         by (s_shape c g) = by_answer g (rw acknowledges (s_ending (brings_is g) (leb confirmed s.window.held) confirmed))
         by (u_shape c g) = by_answer g (u_ending (brings_is g) (u_of (get_or f 2 0)))
         by (refused_shape r n g) =
-            let high : r.0 ≤ 14 = omega (arith, frame_most f, ap frame_number g) in
-            let low : 1 ≤ r.0 = omega (arith, n) in
-            by_answer g (ended r.0 (frame_shuts f more r.0 low high) (omega arith) low refl)
+            let high : number r ≤ 14 = omega (arith, frame_most f, ap answer_number g) in
+            let low : 1 ≤ number r = omega (arith, n) in
+            by_answer g (ended (number r) (frame_shuts f more (number r) low high) (omega arith) low refl)
 
   plain_ending : (asdu : List ℕ) → Ending (send asdu) s times pool now (send_plain asdu s times pool now)
   unfolding send_plain accepting
@@ -269,13 +261,13 @@ module _ (s : State) (times pool : List ℕ) (now : ℕ) where
       (by_test (leb s.settings.p s.queue.count) (kept queue_full (stays (send asdu) 25 (omega arith) (omega arith)) (omega arith) (omega arith) refl)
       (accepted refl refl (ending_clock false now _) (λ z m. (settled now _).most)))
 
-  send_by_law : (asdu : List ℕ) (q : PlainAnswer) → plain_answer asdu ≡ q → plain_number q ≤ 17 → Ending (send asdu) s times pool now (send_by q asdu s times pool now)
+  send_by_law : (asdu : List ℕ) (q : Result Form Refusal) → plain_answer asdu ≡ q → answer_number q ≤ 17 → Ending (send asdu) s times pool now (send_by q asdu s times pool now)
   unfolding send_by
-  send_by_law asdu PlainAnswer.Plain e h = plain_ending asdu
-  send_by_law asdu PlainAnswer.Reserved e h = kept not_plain_form (stays (send asdu) 26 (omega arith) (omega arith)) (omega arith) (omega arith) refl
-  send_by_law asdu (PlainAnswer.Refused r) e h =
-      let some = eqb-false r.0 0 (plain_refused asdu r e) in
-      kept r.0 (send_stays asdu r.0 (omega arith)) (omega arith) (omega (arith, some)) refl
+  send_by_law asdu (Ok Plain) e h = plain_ending asdu
+  send_by_law asdu (Ok Reserved) e h = kept not_plain_form (stays (send asdu) 26 (omega arith) (omega arith)) (omega arith) (omega arith) refl
+  send_by_law asdu (Err r) e h =
+      let some = number_some r in
+      kept (number r) (send_stays asdu (number r) (omega arith)) (omega arith) (omega (arith, some)) refl
 
   send_ending : (asdu : List ℕ) → Ending (send asdu) s times pool now (on_send asdu s times pool now)
   unfolding on_send
@@ -345,7 +337,7 @@ unfolding answer_of
 came_is o {i = i} m h = rw m (by (eqb o.refused 0) refl)
   where
     by : (b : Bool) → eqb o.refused 0 ≡ b
-        → link_came (pick b (LinkAnswer.Done (record { written = length (wire o.frames); full = window_full o.state; came = o.came })) (LinkAnswer.Refused (refusal o.refused)))
+        → link_came (pick {A = Result Done Refusal} b (Ok (record { written = length (wire o.frames); full = window_full o.state; came = o.came })) (Err (refusal o.refused)))
         ≡ (b && i)
     by true e = h (eqb-true _ _ e)
     by false e = refl
@@ -354,16 +346,16 @@ module _ (c : Call) (l : Link) (pool : List ℕ) where
   abbrev o : Outcome
   o = outcome_of c l pool
 
-  number : (entry_of c l pool).number ≡ o.refused
+  number_law : (entry_of c l pool).number ≡ o.refused
   unfolding called_of
-  number = number_is o
+  number_law = number_is o (called_most c.event l pool (length c.output) c.now)
 
   -- a refused one
   left : {q : Outcome} → o ≡ q → q.frames ≡ [] → q.pool ≡ pool → q.refused ≤ 33 → 1 ≤ q.refused
       → record { times = q.times; state = q.state } ≡ pick (closes c.event q.refused) (closed_by q.refused l) l → LinkCall c l pool
   unfolding called_of wire
   left {q} is silent same small low after =
-      let n : (entry_of c l pool).number ≡ q.refused = number ∙ ap (λ (x : Outcome). x.refused) is in
+      let n : (entry_of c l pool).number ≡ q.refused = number_law ∙ ap (λ (x : Outcome). x.refused) is in
       let never : (entry_of c l pool).number ≡ 0 → ⊥ = λ z. omega arith in
       record {
         numbered = omega arith;
@@ -372,7 +364,7 @@ module _ (c : Call) (l : Link) (pool : List ℕ) where
         link_after_law = λ h. rw n (ap (λ (x : Outcome). record { times = x.times; state = x.state }) is ∙ after);
         clocked = λ z. absurd (never z);
         full = λ z. absurd (never z);
-        came = came_is o number (λ z. absurd (never (number ∙ z)));
+        came = came_is o number_law (λ z. absurd (never (number_law ∙ z)));
         confirmed = λ z. absurd (never z);
       }
 
@@ -380,7 +372,7 @@ module _ (c : Call) (l : Link) (pool : List ℕ) where
   taken : o.refused ≡ 0 → o.came ≡ is_i (brings c.event) → o.state.clock ≡ c.now → Confirmed c.event o.state → LinkCall c l pool
   unfolding called_of
   taken z came clock low =
-      let n = number in
+      let n = number_law in
       record {
         numbered = omega arith;
         output_same = λ h. absurd (omega arith);
@@ -388,7 +380,7 @@ module _ (c : Call) (l : Link) (pool : List ℕ) where
         link_after_law = λ h. absurd (omega arith);
         clocked = λ y. clock;
         full = λ y. full_is o z;
-        came = came_is o number (λ y. came);
+        came = came_is o number_law (λ y. came);
         confirmed = λ y. low;
       }
 

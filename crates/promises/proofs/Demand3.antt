@@ -5,7 +5,7 @@ use mathlib.Core.Bool.{Bool, true, false}
 use mathlib.Core.List.{List, [], ◌∷◌, ◌++◌, append_assoc}
 use native.Mathlib.Omega.{arith}
 use native.Mathlib.Nat.{add-zero, le_refl, mod-eq_of_lt}
-use borrow.Author.Tests.{eqb-true, eqb-false, eq-eqb}
+use borrow.Author.Tests.{eqb-false, eq-eqb}
 use lib.ListN.{length, take, drop, get_or, replicate, length-append, length-drop, length-replicate}
 use lib.Seq.{sets, take_at, drop-drop, drop-append-le, get_or-drop}
 use lib.Dec.{eqb}
@@ -18,7 +18,6 @@ use Rattle.laws.proofs.Lists.{sets_all, get_d_tabulate}
 use Rattle.laws.proofs.Window.{window}
 use Rattle.elements.specs.Refusals.{refusal}
 use Rattle.apdu.specs.Reading.{frame_answer, asdu_part}
-use Rattle.apdu.specs.declared.frame.FrameAnswer.{FrameAnswer}
 use Rattle.apdu.proofs.Shapes.{number_in, number_low}
 use Rattle.assembly.specs.Streams.{rest, StreamOutcome, stream}
 use Rattle.link_state.specs.Limits.{call_refusal}
@@ -30,8 +29,7 @@ use Rattle.link.specs.Frames.{Frame, wire}
 use Rattle.link.specs.Making.{window_full}
 use Rattle.link.specs.Events.{Event, frame, send, stop, test, tick}
 use Rattle.link.specs.Events as events
-use Rattle.link.specs.Answering.{answer_of, called_of, link_number, link_written}
-use Rattle.link.specs.declared.answers.LinkAnswer.{LinkAnswer}
+use Rattle.link.specs.Answering.{answer_of, called_of, link_written}
 use Rattle.link.proofs.Wires.{wire_append}
 use Rattle.link_meaning.specs.Abstract.{Abstract, Result, fresh, step}
 use Rattle.link_meaning.specs.Meaning.{OctetsIn, waiting_of, times_of, SameOutcome}
@@ -41,21 +39,30 @@ use Rattle.link_meaning.specs.Runs as totals
 use Rattle.link_meaning.proofs.Effects.{has_effect}
 use Rattle.link_meaning.proofs.Meaning.{steps_alike, opens_fresh}
 use Rattle.link_meaning.proofs.Runs.{runs_agree}
+use Rattle.link.specs.declared.answers.Done.{Done}
+use Rattle.elements.proofs.Refused.{answer_numbered}
+use Rattle.promises.proofs.Numbered.{called_most}
 use Rattle.promises.specs.Demand3.{Call, outcome_of, answered, pool_after, Entry, entry_of, Run, opening, after, cut, i_frames_in, i_frames, all_handed, s_of, send_times, asdus_in, have_left, Brought, framed, brings, received_by, confirmed_by, r_of, a_of, taken_by, taken, told_in, untold, Numbered, Claim, Begun, Demand3}
 use Rattle.promises.proofs.Demand3Pool.{pool_is}
 use Rattle.promises.proofs.Demand3Wire.{AllFit, AllPlain, all_of, each, stream_wire, all_fit, asdus_out, numbers_out, fit_append, each_append, kept_append, told_out}
 use Rattle.promises.proofs.Demand3Steps.{Exact, number_of, counts_are, frees_are, takes_are, takes_plain, wire_fits, exactly}
+use Rattle.std.specs.Prelude.{Ok, Err}
+use Rattle.elements.specs.Refusals.{answer_number}
+use Rattle.elements.specs.declared.refusals.Refusal.{Refusal}
+use Rattle.apdu.specs.declared.frame.Frame as read
+use Rattle.apdu.specs.declared.frame.Frame.TheVariants.{I, S, U}
+use Rattle.std.specs.Prelude as prelude
 
 -- ---- what a frame brings
 
 frame_low : (f : List ℕ) → Octets f → number_of (framed (frame_answer f)) ≤ 32767
 frame_low f o = by (frame_answer f) (number_low f o)
   where
-    by : (a : FrameAnswer) → number_in a ≤ 32767 → number_of (framed a) ≤ 32767
-    by (FrameAnswer.I n r) h = h
-    by (FrameAnswer.S r) h = h
-    by (FrameAnswer.U u) h = h
-    by (FrameAnswer.Refused r) h = h
+    by : (a : prelude.Result read.Frame Refusal) → number_in a ≤ 32767 → number_of (framed a) ≤ 32767
+    by (Ok (I n r)) h = h
+    by (Ok (S r)) h = h
+    by (Ok (U u)) h = h
+    by (Err r) h = h
 
 brings_low : (e : Event) → OctetsIn e → number_of (brings e) ≤ 32767
 brings_low (frame f more) o = frame_low f o
@@ -66,14 +73,9 @@ brings_low tick o = omega arith
 
 -- ---- what an answer says
 
-pub number_is : (o : events.Outcome) → link_number (answer_of o) ≡ o.refused
+pub number_is : (o : events.Outcome) → o.refused ≤ 33 → answer_number (answer_of o) ≡ o.refused
 unfolding answer_of
-number_is o = by (eqb o.refused 0) refl
-  where
-    by : (b : Bool) → eqb o.refused 0 ≡ b
-        → link_number (pick b (LinkAnswer.Done (record { written = length (wire o.frames); full = window_full o.state; came = o.came })) (LinkAnswer.Refused (refusal o.refused))) ≡ o.refused
-    by true e = sym (eqb-true _ _ e)
-    by false e = refl
+number_is o high = answer_numbered o.refused _ high
 
 bytes_are : (o : events.Outcome) (out : List ℕ) → ((o.refused ≡ 0 → ⊥) → o.frames ≡ []) → length (wire o.frames) ≤ length out
     → take (link_written (answer_of o)) (sets out 0 (wire o.frames)) ≡ wire o.frames
@@ -86,14 +88,14 @@ bytes_are o out silent h = by (eqb o.refused 0) refl
         ∙ take_at (wire o.frames) (drop (length (wire o.frames)) out) (length (wire o.frames)) refl
 
     by : (b : Bool) → eqb o.refused 0 ≡ b
-        → take (link_written (pick b (LinkAnswer.Done (record { written = length (wire o.frames); full = window_full o.state; came = o.came })) (LinkAnswer.Refused (refusal o.refused))))
+        → take (link_written (pick {A = prelude.Result Done Refusal} b (Ok (record { written = length (wire o.frames); full = window_full o.state; came = o.came })) (Err (refusal o.refused))))
         (sets out 0 (wire o.frames)) ≡ wire o.frames
     by true e = all
     by false e = unfold wire in sym (ap wire (silent (eqb-false _ _ e)))
 
 written_most : (o : events.Outcome) → link_written (answer_of o) ≤ length (wire o.frames)
 unfolding answer_of
-written_most o = picked (λ (a : LinkAnswer). link_written a ≤ length (wire o.frames)) (eqb o.refused 0) (le_refl _) (omega arith)
+written_most o = picked (λ (a : prelude.Result Done Refusal). link_written a ≤ length (wire o.frames)) (eqb o.refused 0) (le_refl _) (omega arith)
 
 -- ---- a transcript beside the link by totals and lists
 
@@ -375,7 +377,7 @@ module _ (s : Settings) (start : ℕ) (pool : List ℕ) (past : List Entry) (l :
 
   entry_number : (entry_of c l between).number ≡ result.refused
   unfolding called_of
-  entry_number = number_is (outcome_of c l between) ∙ alike.refused
+  entry_number = number_is (outcome_of c l between) (called_most c.event l between (length c.output) c.now) ∙ alike.refused
 
   size : length (wire result.frames) ≤ 4096
   size =

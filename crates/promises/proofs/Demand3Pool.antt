@@ -10,29 +10,31 @@ use Rattle.laws.proofs.Choices.{picked}
 use Rattle.apdu.specs.Control.{u_octet}
 use Rattle.apdu.specs.Reading.{frame_answer}
 use Rattle.apdu.specs.declared.frame.UFrame.{UFrame}
-use Rattle.apdu.specs.declared.frame.FrameAnswer.{FrameAnswer}
 use Rattle.link_state.specs.Acknowledging.{acknowledged}
 use Rattle.link_state.specs.Limits.{call_refusal}
-use Rattle.link_state.specs.declared.acknowledging.AckAnswer.{AckAnswer}
 use Rattle.link_state.specs.declared.State.{State}
 use Rattle.link_state.specs.declared.Link.{Link}
 use Rattle.link.specs.Frames.{stop_act, stop_con, test_act, test_con}
 use Rattle.link.specs.Events.{Outcome, refusing, closing, accepting, s_freeing, on_s, i_freeing, on_i, test_acted, test_confirmed, on_u, on_answer, on_frame, on_stop, too_many, on_test, tick_refusal, on_tick, Event, frame, send, stop, test, tick, event_outcome, called}
 use Rattle.promises.specs.Demand3.{pool_by}
+use Rattle.std.specs.Prelude.{Result, Ok, Err}
+use Rattle.elements.specs.declared.refusals.Refusal.{Refusal}
+use Rattle.apdu.specs.declared.frame.Frame.TheVariants.{I, S, U}
+use Rattle.apdu.specs.declared.frame.Frame.{Frame}
 
 record Keeps (pool : List ℕ) (o : Outcome) : Type 0 where
   same : o.pool ≡ pool
 
 module _ (s : State) (times pool : List ℕ) (now : ℕ) where
-  s_pool : (a : AckAnswer) (more : Bool) → Keeps pool (s_freeing a s times pool more now)
+  s_pool : (a : Result ℕ Refusal) (more : Bool) → Keeps pool (s_freeing a s times pool more now)
   unfolding s_freeing accepting closing
-  s_pool (AckAnswer.Frees d) more = record { same = refl }
-  s_pool (AckAnswer.Refused r) more = record { same = refl }
+  s_pool (Ok d) more = record { same = refl }
+  s_pool (Err r) more = record { same = refl }
 
-  i_pool : (a : AckAnswer) (more : Bool) → Keeps pool (i_freeing a s times pool more now)
+  i_pool : (a : Result ℕ Refusal) (more : Bool) → Keeps pool (i_freeing a s times pool more now)
   unfolding i_freeing accepting closing
-  i_pool (AckAnswer.Frees d) more = record { same = refl }
-  i_pool (AckAnswer.Refused r) more = record { same = refl }
+  i_pool (Ok d) more = record { same = refl }
+  i_pool (Err r) more = record { same = refl }
 
   u_pool : (u : UFrame) (more : Bool) → Keeps pool (on_u u s times pool more now)
   unfolding on_u test_acted test_confirmed accepting closing
@@ -42,12 +44,12 @@ module _ (s : State) (times pool : List ℕ) (now : ℕ) where
       (picked (Keeps pool) (eqb (u_octet u) stop_act) (record { same = refl })
       (picked (Keeps pool) (eqb (u_octet u) stop_con) (record { same = refl }) (record { same = refl }))))
 
-  answer_pool : (f : FrameAnswer) (more : Bool) → Keeps pool (on_answer f s times pool more now)
+  answer_pool : (f : Result Frame Refusal) (more : Bool) → Keeps pool (on_answer f s times pool more now)
   unfolding on_answer on_i on_s closing
-  answer_pool (FrameAnswer.I n r) more = picked (Keeps pool) (eqb n.0 s.receive.next.0) (i_pool (acknowledged s.window.next.0 s.window.held r.0) more) (record { same = refl })
-  answer_pool (FrameAnswer.S r) more = s_pool (acknowledged s.window.next.0 s.window.held r.0) more
-  answer_pool (FrameAnswer.U u) more = u_pool u more
-  answer_pool (FrameAnswer.Refused r) more = record { same = refl }
+  answer_pool (Ok (I n r)) more = picked (Keeps pool) (eqb n.0 s.receive.next.0) (i_pool (acknowledged s.window.next.0 s.window.held r.0) more) (record { same = refl })
+  answer_pool (Ok (S r)) more = s_pool (acknowledged s.window.next.0 s.window.held r.0) more
+  answer_pool (Ok (U u)) more = u_pool u more
+  answer_pool (Err r) more = record { same = refl }
 
   test_pool : Keeps pool (on_test s times pool now)
   unfolding on_test accepting closing

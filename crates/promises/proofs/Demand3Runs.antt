@@ -14,6 +14,7 @@ use Rattle.link.specs.Events.{refusing, called}
 use Rattle.link.specs.Answering.{called_of}
 use Rattle.link_meaning.proofs.Kept.{stays_sound}
 use Rattle.link_meaning.proofs.Runs.{runs_agree}
+use Rattle.promises.proofs.Numbered.{called_most}
 use Rattle.promises.specs.Demand3.{Entry, Run, opening, after, outcome_of}
 use Rattle.promises.specs.Demand3Runs.{Covers, GoesOn, RoomEnough}
 use Rattle.promises.proofs.Demand3Pool.{pool_is}
@@ -45,7 +46,7 @@ covers c l pool h = by (first_range l (length c.output) (length pool) c.now)
     by (from_19_to_24 low high) =
         let is : (outcome_of c l pool).refused ≡ call_refusal l (length c.output) (length pool) c.now =
         (unfold called refusing in rw (ne_eqb (call_refusal l (length c.output) (length pool) c.now) 0 (λ z. omega arith))) in
-        let e = number_is (outcome_of c l pool) ∙ is in
+        let e = number_is (outcome_of c l pool) (called_most c.event l pool (length c.output) c.now) ∙ is in
         absurd (h (omega (arith, e)) (omega (arith, e)))
 
 -- ---- going on

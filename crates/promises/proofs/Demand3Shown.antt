@@ -6,14 +6,12 @@ use mathlib.Core.List.{List, [], ◌∷◌}
 use borrow.Author.Tests.{ltb-true}
 use lib.Dec.{ltb}
 use lib.ListN.{replicate}
-use Rattle.laws.specs.Choice.{◌then◌}
 use Rattle.laws.specs.Lists.{Octets, every}
 use Rattle.laws.specs.Numbers.{le_of, le_octets}
 use Rattle.objects.specs.Objects.{object_of, object_answer}
 use Rattle.asdu.specs.Header.{cause_listed, step_of, needed, header_in, layout_refusal, early_refusal, header_refusal, header_answer}
-use Rattle.asdu.specs.Reading.{object_in, answer_at, first_number, objects_refusal, read_refusal}
+use Rattle.asdu.specs.Reading.{object_in, answer_at, first_number, objects_refusal, read_refusal, checked_header}
 use Rattle.asdu.specs.Plain.{plain_element, plain_objects, plain_answer}
-use Rattle.asdu.specs.declared.PlainAnswer.TheVariants as PlainAnswer
 use Rattle.apdu.specs.Reading.{outer_refusal, short_answer, long_answer, frame_answer, asdu_part}
 use Rattle.apdu.specs.Writing.{i_octets}
 use Rattle.assembly.specs.Start as starts
@@ -27,8 +25,11 @@ use Rattle.link.specs.Frames.{octets_of, wire}
 use Rattle.link.specs.Making.{window_open, window_full, freed_of, sent_of, hand_out, first_waiting, shifted, queued, let_out, flushed, room, send_waiting, due, ending, shut}
 use Rattle.link.specs.Events.{closing, accepting, release, s_freeing, on_s, received, i_freeing, on_i, on_answer, on_frame, send_plain, send_by, on_send, Event, frame, send, event_outcome, called}
 use Rattle.link.specs.Answering.{answer_of, called_of}
+use Rattle.elements.specs.Refusals.{refusal}
 use Rattle.promises.specs.Demand3.{Call, answered, pool_after, opening, after}
 use Rattle.promises.specs.Demand3Runs.{small, first, second, i_with, s_with, Shown}
+use Rattle.std.specs.Prelude.{Ok}
+use Rattle.asdu.specs.declared.Form.TheVariants.{Plain}
 
 -- bytes, by a test of each
 abbrev bytes : List ℕ → Bool
@@ -66,12 +67,12 @@ last =
     (at 40 (frame (s_with 0x02) false)))
     (at 50 (frame (s_with 0x06) false))
 
-pub first_plain : plain_answer first ≡ PlainAnswer.Plain
-unfolding ◌then◌ le_of object_of object_answer every cause_listed step_of needed header_in layout_refusal early_refusal header_refusal header_answer object_in answer_at first_number objects_refusal read_refusal plain_element plain_objects plain_answer
+pub first_plain : plain_answer first ≡ Ok Plain
+unfolding le_of object_of object_answer every cause_listed step_of needed header_in layout_refusal early_refusal header_refusal header_answer object_in answer_at first_number objects_refusal read_refusal checked_header plain_element plain_objects plain_answer
 first_plain = refl
 
 pub shows : Shown
-unfolding ◌then◌ every le_of le_octets object_of object_answer cause_listed step_of needed header_in layout_refusal early_refusal header_refusal header_answer object_in answer_at first_number objects_refusal read_refusal plain_element plain_objects plain_answer outer_refusal short_answer long_answer frame_answer asdu_part i_octets starts.start_refusal sight stream confirms numbers_in_limits ack_refusal acknowledged sound_settings sound_counts sound_length sound_lengths sound_time_at sound_times sound_timers sound_link call_refusal fresh_link open_refusal opened octets_of wire window_open window_full freed_of sent_of hand_out first_waiting shifted queued let_out flushed room send_waiting due ending shut closing accepting release s_freeing on_s received i_freeing on_i on_answer on_frame send_plain send_by on_send event_outcome called answer_of called_of
+unfolding refusal every le_of le_octets object_of object_answer cause_listed step_of needed header_in layout_refusal early_refusal header_refusal header_answer object_in answer_at first_number objects_refusal read_refusal checked_header plain_element plain_objects plain_answer outer_refusal short_answer long_answer frame_answer asdu_part i_octets starts.start_refusal sight stream confirms numbers_in_limits ack_refusal acknowledged sound_settings sound_counts sound_length sound_lengths sound_time_at sound_times sound_timers sound_link call_refusal fresh_link open_refusal opened octets_of wire window_open window_full freed_of sent_of hand_out first_waiting shifted queued let_out flushed room send_waiting due ending shut closing accepting release s_freeing on_s received i_freeing on_i on_answer on_frame send_plain send_by on_send event_outcome called answer_of called_of
 shows =
     record {
       link = last.link;

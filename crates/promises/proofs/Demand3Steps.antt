@@ -7,15 +7,15 @@ use mathlib.Core.Logic.{◌↔◌}
 use native.Mathlib.Omega.{arith}
 use native.Mathlib.Nat.{add-zero}
 use lib.ListN.{length, length-append}
+use borrow.Author.Tests.{ne_eqb}
 use lib.Dec.{eqb}
 use Rattle.laws.specs.Choice.{pick}
 use Rattle.laws.specs.Window.{Confirms}
 use Rattle.laws.proofs.Choices.{picked, pick_same}
 use Rattle.asdu.specs.Plain.{plain_answer}
-use Rattle.asdu.specs.declared.PlainAnswer.{PlainAnswer}
-use Rattle.asdu.proofs.Passed.{plain_refused}
+use Rattle.elements.specs.Refusals.{number}
+use Rattle.elements.proofs.Refused.{number_some}
 use Rattle.apdu.specs.Reading.{frame_answer}
-use Rattle.apdu.specs.declared.frame.FrameAnswer.{FrameAnswer}
 use Rattle.link_state.specs.declared.Settings.{Settings}
 use Rattle.link.specs.Frames.{wire}
 use Rattle.link.specs.Events.{Event, frame, send, stop, test, tick}
@@ -25,6 +25,13 @@ use Rattle.link_meaning.specs.Runs.{Within}
 use Rattle.link_meaning.proofs.Effects.{accepts_exactly}
 use Rattle.promises.specs.Demand3.{Brought, an_i, an_s, an_asdu, other, framed, brings, received_by, confirmed_by, taken_by}
 use Rattle.promises.proofs.Demand3Wire.{AllFit, AllPlain, wire_most}
+use Rattle.std.specs.Prelude.{Ok, Err}
+use Rattle.elements.specs.declared.refusals.Refusal.{Refusal}
+use Rattle.apdu.specs.declared.frame.Frame.TheVariants.{I, S, U}
+use Rattle.apdu.specs.declared.frame.Frame.{Frame}
+use Rattle.asdu.specs.declared.Form.{Form}
+use Rattle.asdu.specs.declared.Form.TheVariants.{Plain, Reserved}
+use Rattle.std.specs.Prelude as prelude
 
 -- ---- what is counted
 
@@ -39,23 +46,23 @@ added n x d y h = by (eqb n 0)
 none_added : (n x : ℕ) → x + 0 ≡ pick (eqb n 0) x x
 none_added n x = add-zero x ∙ sym (pick_same (eqb n 0) x)
 
-received_by_law : (q : FrameAnswer) (x : ℕ) → x + counts_by q ≡ received_by (framed q) x
-received_by_law (FrameAnswer.I s r) x = refl
-received_by_law (FrameAnswer.S r) x = add-zero x
-received_by_law (FrameAnswer.U u) x = add-zero x
-received_by_law (FrameAnswer.Refused r) x = add-zero x
+received_by_law : (q : prelude.Result Frame Refusal) (x : ℕ) → x + counts_by q ≡ received_by (framed q) x
+received_by_law (Ok (I s r)) x = refl
+received_by_law (Ok (S r)) x = add-zero x
+received_by_law (Ok (U u)) x = add-zero x
+received_by_law (Err r) x = add-zero x
 
-confirmed_by_law : (q : FrameAnswer) (x : ℕ) → x + frees_by q x ≡ confirmed_by (framed q) x
-confirmed_by_law (FrameAnswer.I s r) x = refl
-confirmed_by_law (FrameAnswer.S r) x = refl
-confirmed_by_law (FrameAnswer.U u) x = add-zero x
-confirmed_by_law (FrameAnswer.Refused r) x = add-zero x
+confirmed_by_law : (q : prelude.Result Frame Refusal) (x : ℕ) → x + frees_by q x ≡ confirmed_by (framed q) x
+confirmed_by_law (Ok (I s r)) x = refl
+confirmed_by_law (Ok (S r)) x = refl
+confirmed_by_law (Ok (U u)) x = add-zero x
+confirmed_by_law (Err r) x = add-zero x
 
-none_taken : (q : FrameAnswer) → taken_by (framed q) ≡ []
-none_taken (FrameAnswer.I s r) = refl
-none_taken (FrameAnswer.S r) = refl
-none_taken (FrameAnswer.U u) = refl
-none_taken (FrameAnswer.Refused r) = refl
+none_taken : (q : prelude.Result Frame Refusal) → taken_by (framed q) ≡ []
+none_taken (Ok (I s r)) = refl
+none_taken (Ok (S r)) = refl
+none_taken (Ok (U u)) = refl
+none_taken (Err r) = refl
 
 pub counts_are : (e : Event) (n x : ℕ) → x + counts e n ≡ pick (eqb n 0) (received_by (brings e) x) x
 counts_are (frame f more) n x = added n x (counts_by (frame_answer f)) (received_by (framed (frame_answer f)) x) (received_by_law (frame_answer f) x)
@@ -80,11 +87,11 @@ takes_are tick n = sym (pick_same (eqb n 0) [])
 
 -- ---- what is taken is plain
 
-taken_plain : (x : List ℕ) (p : PlainAnswer) (now : ℕ) (a : Abstract) → plain_answer x ≡ p → AllPlain (pick (eqb (step_send p x now a).refused 0) (x ∷ []) [])
+taken_plain : (x : List ℕ) (p : prelude.Result Form Refusal) (now : ℕ) (a : Abstract) → plain_answer x ≡ p → AllPlain (pick (eqb (step_send p x now a).refused 0) (x ∷ []) [])
 unfolding step_send refuse
-taken_plain x PlainAnswer.Plain now a e = picked AllPlain (eqb (step_send PlainAnswer.Plain x now a).refused 0) (e, tt) tt
-taken_plain x PlainAnswer.Reserved now a e = tt
-taken_plain x (PlainAnswer.Refused r) now a e = rw (plain_refused x r e) tt
+taken_plain x (Ok Plain) now a e = picked AllPlain (eqb (step_send (Ok Plain) x now a).refused 0) (e, tt) tt
+taken_plain x (Ok Reserved) now a e = tt
+taken_plain x (Err r) now a e = rw (ne_eqb (number r) 0 (number_some r)) tt
 
 pub takes_plain : (e : Event) (now : ℕ) (a : Abstract) → AllPlain (takes e (step e now a).refused)
 unfolding step
@@ -139,14 +146,14 @@ module _ (now : ℕ) (a : Abstract) (within : Within a) where
   abbrev Exactly : Brought → Result → Type 0
   Exactly b r = Exact b r.refused a.sent a.confirmed a.received
 
-  exact_frame : (f : FrameAnswer) (more : Bool) → number_of (framed f) ≤ 32767 → Exactly (framed f) (step_frame f more now a)
+  exact_frame : (f : prelude.Result Frame Refusal) (more : Bool) → number_of (framed f) ≤ 32767 → Exactly (framed f) (step_frame f more now a)
   unfolding step_frame
-  exact_frame (FrameAnswer.I n r) more h =
+  exact_frame (Ok (I n r)) more h =
       let x = (accepts_exactly now more a n.0 r.0 within (omega arith)).i_frame_accepted in
       ((λ z. let p = x.0 z in (p.1, p.0)), (λ p. x.1 (p.1, p.0)))
-  exact_frame (FrameAnswer.S r) more h = (accepts_exactly now more a 0 r.0 within (omega arith)).s_frame_accepted
-  exact_frame (FrameAnswer.U u) more h = tt
-  exact_frame (FrameAnswer.Refused r) more h = tt
+  exact_frame (Ok (S r)) more h = (accepts_exactly now more a 0 r.0 within (omega arith)).s_frame_accepted
+  exact_frame (Ok (U u)) more h = tt
+  exact_frame (Err r) more h = tt
 
   pub exactly : (e : Event) → number_of (brings e) ≤ 32767 → Exactly (brings e) (step e now a)
   unfolding step

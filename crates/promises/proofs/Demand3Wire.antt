@@ -7,38 +7,39 @@ use native.Mathlib.Nat.{le_refl}
 use borrow.Author.Tests.{le-ltb}
 use lib.ListN.{length, length-append}
 use lib.Seq.{take_at, drop_at}
+use Rattle.std.specs.Prelude.{Option, Some, Result, Ok}
 use Rattle.laws.specs.Numbers.{le_octets}
+use Rattle.elements.specs.declared.refusals.Refusal.{Refusal}
 use Rattle.asdu.specs.Plain.{plain_answer}
-use Rattle.asdu.specs.declared.PlainAnswer.TheVariants as PlainAnswer
 use Rattle.apdu.specs.Control.{send_number, receive_number}
 use Rattle.apdu.specs.Reading.{frame_answer, asdu_part}
 use Rattle.apdu.specs.Writing.{i_octets, s_octets, u_octets}
 use Rattle.apdu.specs.declared.frame.UFrame.{UFrame}
-use Rattle.apdu.specs.declared.frame.FrameAnswer.{FrameAnswer}
 use Rattle.apdu.proofs.Answers.{i_long}
 use Rattle.assembly.specs.Start.{start_refusal, sight, start_answer}
 use Rattle.assembly.specs.Streams.{rest, StreamOutcome, handed, outcome_by, stream_from, stream}
-use Rattle.assembly.specs.declared.start.StartAnswer.{StartAnswer}
-use Rattle.assembly.specs.declared.start.StartAnswer.TheVariants.{Whole}
 use Rattle.assembly.proofs.Sights.{enough_whole, longer_whole}
 use Rattle.link.specs.Frames.{Frame, i_frame, s_frame, u_frame, octets_of, wire}
 use Rattle.link_meaning.specs.Effects.{asdus_of, tells_r, others, NumberedFrames}
 use Rattle.asdu.proofs.Passed.{plain_reads, plain_sized}
 use Rattle.promises.specs.Demand3.{keep_i, i_frames_in, asdus_in, Numbered, told_in}
 use Rattle.promises.proofs.FrameBack.{i_reads, part_is, s_reads, frame_reads_back}
+use Rattle.apdu.specs.declared.frame.Frame as read
+use Rattle.apdu.specs.declared.frame.Frame.TheVariants.{I, S, U}
+use Rattle.asdu.specs.declared.Form.TheVariants.{Plain}
 
 -- ---- one frame
 
 -- numbers of 15 bits, and an ASDU of plain form
 abbrev pub Fit : Frame → Type 0
-Fit (i_frame s r x) = (s ≤ 32767) × (r ≤ 32767) × (plain_answer x ≡ PlainAnswer.Plain)
+Fit (i_frame s r x) = (s ≤ 32767) × (r ≤ 32767) × (plain_answer x ≡ Ok Plain)
 Fit (s_frame r) = r ≤ 32767
 Fit (u_frame u) = Unit {0}
 
-abbrev read_as : Frame → FrameAnswer
-read_as (i_frame s r x) = FrameAnswer.I (send_number s) (receive_number r)
-read_as (s_frame r) = FrameAnswer.S (receive_number r)
-read_as (u_frame u) = FrameAnswer.U u
+abbrev read_as : Frame → Result read.Frame Refusal
+read_as (i_frame s r x) = Ok (I (send_number s) (receive_number r))
+read_as (s_frame r) = Ok (S (receive_number r))
+read_as (u_frame u) = Ok (U u)
 
 reads : (f : Frame) → Fit f → frame_answer (octets_of f) ≡ read_as f
 unfolding octets_of
@@ -59,7 +60,7 @@ u_six : (u : UFrame) → length (octets_of (u_frame u)) ≡ 6
 unfolding octets_of u_octets le_octets
 u_six u = refl
 
-i_most : (s r : ℕ) (x : List ℕ) → plain_answer x ≡ PlainAnswer.Plain → length (octets_of (i_frame s r x)) ≤ 255
+i_most : (s r : ℕ) (x : List ℕ) → plain_answer x ≡ Ok Plain → length (octets_of (i_frame s r x)) ≤ 255
 unfolding octets_of
 i_most s r x e = let z = plain_sized x e in omega (arith, i_long s r x, z.1)
 
@@ -69,13 +70,13 @@ no_refusal : (n : ℕ) → n ≤ 249 → start_refusal 104 (4 + n) ≡ 0
 unfolding start_refusal
 no_refusal n h = rw (le-ltb 253 (4 + n) (omega arith), le-ltb (4 + n) 4 (omega arith))
 
-starts : (f : Frame) → Fit f → start_answer (octets_of f) ≡ Whole (length (octets_of f))
+starts : (f : Frame) → Fit f → start_answer (octets_of f) ≡ Ok (Some (length (octets_of f)))
 unfolding octets_of
 starts (i_frame s r x) h =
     let z = plain_sized x h.2 in
     let long = i_long s r x in
     unfold i_octets in
-    enough_whole _ 104 (4 + length x) (omega (arith, long)) (no_refusal (length x) z.1) (omega (arith, long)) ∙ ap Whole (omega (arith, long))
+    enough_whole _ 104 (4 + length x) (omega (arith, long)) (no_refusal (length x) z.1) (omega (arith, long)) ∙ ap (λ (n : ℕ). Ok (Some n)) (omega (arith, long))
 starts (s_frame r) h = unfold s_octets le_octets sight start_refusal in refl
 starts (u_frame u) h = unfold u_octets le_octets sight start_refusal in refl
 
@@ -104,9 +105,9 @@ cuts_wire (f ∷ fs) h zero at l = absurd (omega (arith, some_octets f h.0, leng
 cuts_wire (f ∷ fs) h (suc most) at l =
     let n = length (octets_of f) in
     let s = octets_of f ++ wire fs in
-    let e : start_answer s ≡ Whole n = longer_whole (octets_of f) (wire fs) n (starts f h.0) in
+    let e : start_answer s ≡ Ok (Some n) = longer_whole (octets_of f) (wire fs) n (starts f h.0) in
     let next = cuts_wire fs h.1 most (at + n) (omega (arith, some_octets f h.0, length-append (octets_of f) (wire fs))) in
-    ap (λ (a : StartAnswer). outcome_by a at s (stream_from most)) e
+    ap (λ (a : Result (Option ℕ) Refusal). outcome_by a at s (stream_from most)) e
     ∙ (rw (take_at (octets_of f) (wire fs) n refl, drop_at (octets_of f) (wire fs) n refl) (ap (handed (octets_of f)) next))
 
 pub stream_wire : (fs : List Frame) → AllFit fs → stream (wire fs) ≡ all_of fs
@@ -125,7 +126,7 @@ wire_most (u_frame u ∷ fs) h = let f = u_frame u in omega (arith, length-appen
 -- ASDUs of plain form
 abbrev pub AllPlain : List (List ℕ) → Type 0
 AllPlain [] = Unit {0}
-AllPlain (x ∷ xs) = (plain_answer x ≡ PlainAnswer.Plain) × AllPlain xs
+AllPlain (x ∷ xs) = (plain_answer x ≡ Ok Plain) × AllPlain xs
 
 low : (n : ℕ) → n % 32768 ≤ 32767
 low n = omega arith

@@ -9,15 +9,17 @@ use Rattle.laws.specs.Numbers.{le_of, le_octets}
 use Rattle.laws.proofs.Numbers as Numbers
 use Rattle.asdu.specs.Reading.{read_refusal}
 use Rattle.apdu.specs.Control.{receive_number, number_at, u_of}
-use Rattle.apdu.specs.Reading.{outer_refusal, short_answer, frame_answer, frame_number}
+use Rattle.apdu.specs.Reading.{outer_refusal, short_answer, frame_answer}
 use Rattle.apdu.specs.Writing.{start_octets}
-use Rattle.apdu.specs.declared.frame.FrameAnswer.TheVariants.{S}
 use Rattle.apdu.proofs.Answers.{number_small}
 use Rattle.apdu.proofs.Shapes.{STaken, Shape, i_shape, s_shape, u_shape, refused_shape, shape}
 use Rattle.promises.specs.Frames.{LaidFrame, i_laid, s_laid, u_laid, laid_answer, FrameAccepts}
 use Rattle.promises.proofs.Bodies.{accepted}
 use Rattle.promises.proofs.FrameBack.{i_reads, u_back}
 use Rattle.promises.proofs.FrameAgain.{all_six, only_six, number_accepted, i_octets_law, u_same}
+use Rattle.std.specs.Prelude.{Ok}
+use Rattle.elements.specs.Refusals.{answer_number}
+use Rattle.apdu.specs.declared.frame.Frame.TheVariants.{S}
 
 -- ---- what is laid out is accepted
 
@@ -29,9 +31,9 @@ some asdu h = let (k, c) = accepted asdu h in omega (arith, c.headed.six)
 halved : (n bit : ℕ) → n ≤ 32767 → bit ≤ 1 → ((n * 2 + bit) % 256 + ((n * 2 + bit) / 256 % 256 + 0 * 256) * 256) / 2 ≡ n
 halved n bit h b = omega arith
 
-s_reads : (r bit : ℕ) → r ≤ 32767 → bit ≤ 1 → frame_answer (start_octets 4 1 (r * 2 + bit)) ≡ S (receive_number r)
+s_reads : (r bit : ℕ) → r ≤ 32767 → bit ≤ 1 → frame_answer (start_octets 4 1 (r * 2 + bit)) ≡ Ok (S (receive_number r))
 unfolding frame_answer outer_refusal short_answer le_octets le_of
-s_reads r bit h b = ap (λ (n : ℕ). S (receive_number n)) (halved r bit h b)
+s_reads r bit h b = ap (λ (n : ℕ). Ok (S (receive_number n))) (halved r bit h b)
 
 takes : (f : List ℕ) (l : LaidFrame f) → frame_answer f ≡ laid_answer l
 takes f (i_laid s r asdu p q h e) = ap frame_answer e ∙ i_reads s r asdu p q (some asdu h) h
@@ -49,7 +51,7 @@ module _ (f : List ℕ) (o : Octets f) where
       s_laid (number_at 4 f) (get_or f 4 0 % 2) (number_small _ (number_accepted f o out 4)) bit
       (sym (all_six f o out 4 1 _ c.four (sym c.first) y ∙ only_six f o out c.four))
 
-  only : frame_number (frame_answer f) ≡ 0 → LaidFrame f
+  only : answer_number (frame_answer f) ≡ 0 → LaidFrame f
   only h = by (shape f)
     where
       by : Shape f → LaidFrame f
@@ -59,7 +61,7 @@ module _ (f : List ℕ) (o : Octets f) where
           (sym (i_octets_law f o c (drop 6 f) refl ∙ take-append-drop 6 f))
       by (s_shape c e) = s_only c
       by (u_shape c e) = u_laid (u_of (get_or f 2 0)) (sym (u_same f o c))
-      by (refused_shape r n e) = absurd (n (sym (ap frame_number e) ∙ h))
+      by (refused_shape r n e) = absurd (n (sym (ap answer_number e) ∙ h))
 
 pub frame_accepts : (f : List ℕ) → FrameAccepts f
 frame_accepts f = record { takes = takes f; only = only f }

@@ -19,15 +19,19 @@ use Rattle.asdu.specs.Header.{header_answer}
 use Rattle.asdu.specs.Reading.{read_asdu}
 use Rattle.asdu.specs.Writing.{asdu_octets}
 use Rattle.apdu.specs.Control.{send_number, receive_number, number_at, u_layout, u_of, u_octet}
-use Rattle.apdu.specs.Reading.{frame_answer, frame_number}
+use Rattle.apdu.specs.Reading.{frame_answer}
 use Rattle.apdu.specs.Writing.{start_octets, i_octets, s_octets, u_octets, number_refusal, numbers_refusal, i_refusal, s_refusal}
-use Rattle.apdu.specs.declared.frame.FrameAnswer.{FrameAnswer}
-use Rattle.apdu.specs.declared.frame.FrameAnswer.TheVariants.{I, S, U}
 use Rattle.apdu.proofs.Answers.{then_goes, some_room, start_long, i_long}
 use Rattle.apdu.proofs.Shapes.{Outer, ITaken, STaken, UTaken, Shape, i_shape, s_shape, u_shape, refused_shape, shape}
 use Rattle.promises.specs.Asdus.{asdu_form}
 use Rattle.promises.specs.Frames.{FrameAgain, FrameWritesAgain, rewritten, rewrite_refusal, frame_form}
 use Rattle.promises.proofs.WriteAgain.{writes_again}
+use Rattle.std.specs.Prelude.{Result}
+use Rattle.elements.specs.Refusals.{answer_number}
+use Rattle.elements.specs.declared.refusals.Refusal.{Refusal}
+use Rattle.apdu.specs.declared.frame.Frame.TheVariants.{I, S, U}
+use Rattle.apdu.specs.declared.frame.Frame.{Frame}
+use Rattle.std.specs.Prelude.{Ok}
 
 -- ---- the six octets
 
@@ -123,11 +127,11 @@ module _ (f : List ℕ) (o : Octets f) where
 
 module _ (f : List ℕ) (room : ℕ) (o : Octets f) (h : length f ≤ room) where
   -- by the answer
-  again_by : {a : FrameAnswer} → frame_answer f ≡ a → rewrite_refusal a f room ≡ 0 → length (rewritten a f) ≡ length f → rewritten a f ≡ kept_by (frame_form a f) f
+  again_by : {a : Result Frame Refusal} → frame_answer f ≡ a → rewrite_refusal a f room ≡ 0 → length (rewritten a f) ≡ length f → rewritten a f ≡ kept_by (frame_form a f) f
       → FrameAgain f room
   again_by e p q r = record { accepted = rw e p; long = rw e q; kept = rw e r }
 
-  i_again : ITaken f → frame_answer f ≡ I (send_number (number_at 2 f)) (receive_number (number_at 4 f)) → FrameAgain f room
+  i_again : ITaken f → frame_answer f ≡ Ok (I (send_number (number_at 2 f)) (receive_number (number_at 4 f))) → FrameAgain f room
   unfolding i_refusal numbers_refusal
   i_again c e =
       let out = c.outside in
@@ -148,7 +152,7 @@ module _ (f : List ℕ) (room : ℕ) (o : Octets f) (h : length f ≤ room) wher
       kept_wholes 4 ((7 at 1 ∷ []) ∷ whole ∷ []) f o (omega arith)
       ∙ rw (get_or-drop 4 f 0 0, get_or-drop 1 (drop 4 f) 0 0, get_or-drop 4 f 1 0, p, q)
 
-  s_again : STaken f → frame_answer f ≡ S (receive_number (number_at 4 f)) → FrameAgain f room
+  s_again : STaken f → frame_answer f ≡ Ok (S (receive_number (number_at 4 f))) → FrameAgain f room
   unfolding s_refusal s_octets
   s_again c e =
       let out = c.outside in
@@ -157,7 +161,7 @@ module _ (f : List ℕ) (room : ℕ) (o : Octets f) (h : length f ≤ room) wher
       (start_long 4 1 (number_at 4 f * 2) ∙ sym (no_more f o out c.four))
       (s_octets_law f o c ∙ sym (s_kept out.six))
 
-  u_again : UTaken f → frame_answer f ≡ U (u_of (get_or f 2 0)) → FrameAgain f room
+  u_again : UTaken f → frame_answer f ≡ Ok (U (u_of (get_or f 2 0))) → FrameAgain f room
   unfolding kept_by
   u_again c e =
       let out = c.outside in
@@ -174,4 +178,4 @@ frame_writes_again f room o h l = by (shape f)
     by (i_shape c e) = i_again f room o l c e
     by (s_shape c e) = s_again f room o l c e
     by (u_shape c e) = u_again f room o l c e
-    by (refused_shape r n e) = absurd (n (sym (ap frame_number e) ∙ h))
+    by (refused_shape r n e) = absurd (n (sym (ap answer_number e) ∙ h))

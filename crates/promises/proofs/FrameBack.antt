@@ -19,12 +19,13 @@ use Rattle.apdu.specs.Control.{send_number, receive_number, number_at, u_layout,
 use Rattle.apdu.specs.Reading.{outer_refusal, short_answer, long_answer, frame_answer, asdu_part}
 use Rattle.apdu.specs.Writing.{start_octets, i_octets, s_octets, u_octets, numbers_refusal, number_refusal, room_refusal, i_refusal, relay_refusal, s_refusal}
 use Rattle.apdu.specs.declared.frame.UFrame.{UFrame}
-use Rattle.apdu.specs.declared.frame.FrameAnswer.TheVariants.{I, S, U}
 use Rattle.asdu.proofs.Passed.{read_sized}
 use Rattle.apdu.proofs.Answers.{i_long, number_small, numbers_small}
 use Rattle.promises.specs.Asdus.{TypedAsdu, ReadBack}
 use Rattle.promises.specs.Frames.{IBack, FrameReadsBack}
 use Rattle.promises.proofs.ReadBack.{reads_back}
+use Rattle.apdu.specs.declared.frame.Frame.TheVariants.{I, S, U}
+use Rattle.std.specs.Prelude.{Ok}
 
 -- ---- an I frame
 
@@ -33,7 +34,7 @@ unfolding outer_refusal
 outer_passes f h a b c = rw (le-ltb (length f) 6 h, eq-eqb (get_or f 0 0) 104 a, le-ltb 253 (get_or f 1 0) b, eq-eqb (length f) (2 + get_or f 1 0) c)
 
 long_reads : (f : List ℕ) → get_or f 2 0 % 2 ≡ 0 → get_or f 4 0 % 2 ≡ 0 → read_refusal (drop 6 f) ≡ 0
-    → long_answer f ≡ I (send_number (number_at 2 f)) (receive_number (number_at 4 f))
+    → long_answer f ≡ Ok (I (send_number (number_at 2 f)) (receive_number (number_at 4 f)))
 unfolding long_answer
 long_reads f a b c = rw (eq-eqb (get_or f 2 0 % 2) 0 a, eq-eqb (get_or f 4 0 % 2) 0 b, eq-eqb (read_refusal (drop 6 f)) 0 c)
 
@@ -77,7 +78,7 @@ module _ (s r : ℕ) (asdu : List ℕ) where
   unfolding i_octets le_octets le_of
   receive_is h = halved r h
 
-  pub i_reads : s ≤ 32767 → r ≤ 32767 → 1 ≤ length asdu → read_refusal asdu ≡ 0 → frame_answer (i_octets s r asdu) ≡ I (send_number s) (receive_number r)
+  pub i_reads : s ≤ 32767 → r ≤ 32767 → 1 ≤ length asdu → read_refusal asdu ≡ 0 → frame_answer (i_octets s r asdu) ≡ Ok (I (send_number s) (receive_number r))
   i_reads hs hr some h =
       let f = i_octets s r asdu in
       let small = (read_sized asdu h).1 in
@@ -88,7 +89,7 @@ module _ (s r : ℕ) (asdu : List ℕ) where
       long_reads f (ap (λ (n : ℕ). n % 2) third_is ∙ even_octet s) (ap (λ (n : ℕ). n % 2) fifth_is ∙ even_octet r) (ap read_refusal rest_is ∙ h) in
       long ∙ (read ∙ rw (send_is hs, receive_is hr))
 
-  pub part_is : {n m : ℕ} → frame_answer (i_octets s r asdu) ≡ I (send_number n) (receive_number m) → asdu_part (i_octets s r asdu) ≡ asdu
+  pub part_is : {n m : ℕ} → frame_answer (i_octets s r asdu) ≡ Ok (I (send_number n) (receive_number m)) → asdu_part (i_octets s r asdu) ≡ asdu
   unfolding asdu_part
   part_is e = rw e rest_is
 
@@ -114,17 +115,17 @@ relay_back s r asdu room h =
 
 -- ---- an S frame
 
-pub s_reads : (r : ℕ) → r ≤ 32767 → frame_answer (s_octets r) ≡ S (receive_number r)
+pub s_reads : (r : ℕ) → r ≤ 32767 → frame_answer (s_octets r) ≡ Ok (S (receive_number r))
 unfolding frame_answer outer_refusal short_answer s_octets le_octets le_of
-s_reads r h = ap (λ (n : ℕ). S (receive_number n)) (halved r h)
+s_reads r h = ap (λ (n : ℕ). Ok (S (receive_number n))) (halved r h)
 
-s_back : (r room : ℕ) → s_refusal r room ≡ 0 → frame_answer (s_octets r) ≡ S (receive_number r)
+s_back : (r room : ℕ) → s_refusal r room ≡ 0 → frame_answer (s_octets r) ≡ Ok (S (receive_number r))
 unfolding s_refusal
 s_back r room h = s_reads r (number_small r (both (number_refusal r) _ h).0)
 
 -- ---- a U frame
 
-u_reads : (b : ℕ) → b < 256 → b % 4 ≡ 3 → frame_answer (start_octets 4 b 0) ≡ U (u_of b)
+u_reads : (b : ℕ) → b < 256 → b % 4 ≡ 3 → frame_answer (start_octets 4 b 0) ≡ Ok (U (u_of b))
 unfolding frame_answer outer_refusal short_answer le_octets le_of
 u_reads b h low =
     let e : b % 256 ≡ b = omega arith in
@@ -179,9 +180,9 @@ module _ (u : UFrame) where
     test_con = (one 6 ∙ num_flag u.test_con) j;
   }
 
-  pub u_back : frame_answer (u_octets u) ≡ U u
+  pub u_back : frame_answer (u_octets u) ≡ Ok (U u)
   unfolding u_octets bits
-  u_back = u_reads (u_octet u) u_small (bit 0) ∙ ap U flags
+  u_back = u_reads (u_octet u) u_small (bit 0) ∙ ap (λ (u : UFrame). Ok (U u)) flags
 
 pub frame_reads_back : FrameReadsBack
 frame_reads_back = record { i = i_back; relay = relay_back; s = s_back; u = u_back }

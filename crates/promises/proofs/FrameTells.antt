@@ -15,33 +15,37 @@ use Rattle.laws.specs.Numbers.{le_octets}
 use Rattle.laws.proofs.Lists.{octets_drop}
 use Rattle.asdu.specs.Reading.{read_asdu}
 use Rattle.asdu.specs.Writing.{asdu_octets}
-use Rattle.asdu.specs.declared.PlainAnswer.TheVariants as PlainAnswer
 use Rattle.apdu.specs.Control.{send_number, receive_number, number_at}
-use Rattle.apdu.specs.Reading.{frame_answer, frame_number}
+use Rattle.apdu.specs.Reading.{frame_answer}
 use Rattle.apdu.specs.Writing.{i_octets, s_octets}
 use Rattle.apdu.specs.Plain.{plain_frame_by, plain_frame}
-use Rattle.apdu.specs.declared.frame.FrameAnswer.{FrameAnswer}
-use Rattle.apdu.specs.declared.frame.FrameAnswer.TheVariants.{I, S}
 use Rattle.apdu.proofs.Shapes.{ITaken, STaken, Shape, i_shape, s_shape, u_shape, refused_shape, shape}
 use Rattle.promises.specs.Frames.{FrameTold, rewritten}
 use Rattle.promises.proofs.WriteAgain.{writes_again}
 use Rattle.promises.proofs.Tells.{tells}
 use Rattle.promises.proofs.FrameAgain.{i_octets_law, s_same, u_same}
+use Rattle.std.specs.Prelude.{Result, Ok}
+use Rattle.elements.specs.Refusals.{answer_number}
+use Rattle.elements.specs.declared.refusals.Refusal.{Refusal}
+use Rattle.apdu.specs.declared.frame.Frame.TheVariants.{I, S}
+use Rattle.apdu.specs.declared.frame.Frame.{Frame}
+use Rattle.asdu.specs.declared.Form.{Form}
+use Rattle.asdu.specs.declared.Form.TheVariants.{Plain, Reserved}
 
 -- plain and reserved are two answers
-differ : PlainAnswer.Plain ≡ PlainAnswer.Reserved → ⊥
+differ : ◌≡◌ {A = Result Form Refusal} (Ok Plain) (Ok Reserved) → ⊥
 differ e = let z : ◌≡◌ {A = ℕ} 0 1 = cc in omega arith
 
 module _ (f : List ℕ) (o : Octets f) where
   -- an answer told by what its own test tells
-  told_by : {a : FrameAnswer} → frame_answer f ≡ a
-      → (plain_frame_by a f ≡ PlainAnswer.Plain) ↔ ((frame_number a ≡ 0) × (rewritten a f ≡ f))
-      → (plain_frame_by a f ≡ PlainAnswer.Reserved) ↔ ((frame_number a ≡ 0) × (rewritten a f ≡ f → ⊥)) → FrameTold f
+  told_by : {a : Result Frame Refusal} → frame_answer f ≡ a
+      → (plain_frame_by a f ≡ Ok Plain) ↔ ((answer_number a ≡ 0) × (rewritten a f ≡ f))
+      → (plain_frame_by a f ≡ Ok Reserved) ↔ ((answer_number a ≡ 0) × (rewritten a f ≡ f → ⊥)) → FrameTold f
   unfolding plain_frame
   told_by e y d = record { plain = rw e y; differs = rw e d; refused = λ r g. rw g }
 
   -- I: the six octets are the same, so it is the ASDU's answer
-  i_told : ITaken f → frame_answer f ≡ I (send_number (number_at 2 f)) (receive_number (number_at 4 f)) → FrameTold f
+  i_told : ITaken f → frame_answer f ≡ Ok (I (send_number (number_at 2 f)) (receive_number (number_at 4 f))) → FrameTold f
   i_told c e =
       let t = tells (drop 6 f) (octets_drop 6 f o) in
       let w = writes_again (drop 6 f) (length (drop 6 f)) (octets_drop 6 f o) c.reads (le_refl _) in
@@ -64,16 +68,16 @@ module _ (f : List ℕ) (o : Octets f) where
       even : (n : ℕ) {b : ℕ} → n * 2 % 256 ≡ b → b % 2 ≡ 0
       even n h = omega arith
 
-  s_told : STaken f → frame_answer f ≡ S (receive_number (number_at 4 f)) → FrameTold f
+  s_told : STaken f → frame_answer f ≡ Ok (S (receive_number (number_at 4 f))) → FrameTold f
   s_told c e = by (eqb (get_or f 4 0 % 2) 0) refl
     where
       by : (t : Bool) → eqb (get_or f 4 0 % 2) 0 ≡ t → FrameTold f
       by true p =
-          let is : plain_frame_by (S (receive_number (number_at 4 f))) f ≡ PlainAnswer.Plain = rw p in
+          let is : plain_frame_by (Ok (S (receive_number (number_at 4 f)))) f ≡ Ok Plain = rw p in
           let same = s_same f o c (eqb-true _ _ p) in
           told_by e ((λ g. (refl, same)), (λ x. is)) ((λ g. absurd (differ (sym is ∙ g))), (λ x. absurd (x.1 same)))
       by false p =
-          let is : plain_frame_by (S (receive_number (number_at 4 f))) f ≡ PlainAnswer.Reserved = rw p in
+          let is : plain_frame_by (Ok (S (receive_number (number_at 4 f)))) f ≡ Ok Reserved = rw p in
           let differs : s_octets (number_at 4 f) ≡ f → ⊥ = λ g. eqb-false _ _ p (s_clear g) in
           told_by e ((λ g. absurd (differ (sym g ∙ is))), (λ x. absurd (differs x.1))) ((λ g. (refl, differs)), (λ x. is))
 

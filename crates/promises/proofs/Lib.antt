@@ -17,6 +17,7 @@ pub mod Parts
 pub mod CutFree
 pub mod OneAnswer
 pub mod Acknowledged
+pub mod Numbered
 pub mod Demand3Wire
 pub mod Demand3Steps
 pub mod Demand3Pool

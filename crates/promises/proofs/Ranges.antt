@@ -2,7 +2,7 @@
 use Prim.Native.Nat.{ℕ, zero, suc, ◌+◌, ◌%◌, ◌≤◌}
 use mathlib.Core.Path.{◌≡◌, refl}
 use mathlib.Core.Bool.{Bool, true, false, not, ◌&&◌, ◌||◌}
-use mathlib.Core.List.{List}
+use mathlib.Core.List.{List, [], ◌∷◌}
 use native.Mathlib.Omega.{arith}
 use borrow.Author.Tests.{eqb-true, ltb-true, ltb-false}
 use lib.ListN.{length, get_or, drop, length-drop}
@@ -10,21 +10,27 @@ use lib.Dec.{eqb, ltb}
 use Rattle.laws.specs.Choice.{pick, ◌then◌}
 use Rattle.laws.specs.Numbers.{le_of}
 use Rattle.laws.proofs.Choices.{passed, held}
-use Rattle.elements.specs.Refusals.{refusal, wrong_address}
-use Rattle.objects.specs.Kinds.{kind_of, size_of}
-use Rattle.objects.specs.Objects.{object_number, object_answer}
+use Rattle.elements.specs.Refusals.{refusal, wrong_address, bad_i_control}
+use Rattle.elements.proofs.Refused.{number_low, answer_high}
+use Rattle.elements.specs.Quality.{seq_qd_answer}
+use Rattle.elements.specs.Steps.{vti_answer}
+use Rattle.elements.specs.Causes.{coi_answer}
+use Rattle.objects.specs.Kinds.{type_of, kind_of, size_of, value_kind}
+use Rattle.objects.specs.Elements.{value_refusal}
+use Rattle.objects.specs.Objects.{object_answer, kind_refusal, address_refusal, object_refusal}
+use Rattle.objects.specs.declared.values.Value.{Value}
+use Rattle.asdu.specs.Writing.{own_objects, first_address, first_refusal, shape_refusal, size_refusal, write_refusal_by, write_refusal}
+use Rattle.asdu.specs.declared.Asdu.{Asdu}
 use Rattle.objects.specs.declared.kinds.Kind.{Kind}
-use Rattle.objects.specs.declared.kinds.KindAnswer.{KindAnswer}
-use Rattle.objects.specs.declared.kinds.KindAnswer.TheVariants.{Carried, NotCarried}
 use Rattle.objects.specs.declared.Object.{Object}
-use Rattle.objects.specs.declared.ObjectAnswer.TheVariants as ObjectAnswer
-use Rattle.asdu.specs.Header.{cause_listed, cause_in, needed, sequence_in, count_in, layout_refusal, early_refusal, header_refusal_by, header_refusal, header_by, header_answer}
-use Rattle.asdu.specs.Reading.{object_at, answer_at, first_number, objects_refusal, refusal_by, read_refusal}
+use Rattle.asdu.specs.Header.{cause_listed, cause_in, needed, sequence_in, count_in, layout_refusal, early_refusal, header_refusal_by, header_refusal}
+use Rattle.asdu.specs.Reading.{object_at, answer_at, first_number, objects_refusal, objects_refusal_by, read_refusal}
 use Rattle.asdu.specs.declared.header.Header.{Header}
-use Rattle.asdu.specs.declared.header.HeaderAnswer.{HeaderAnswer}
-use Rattle.apdu.specs.Reading.{outer_refusal, short_answer, long_answer, frame_answer, frame_number}
-use Rattle.apdu.specs.declared.frame.FrameAnswer.{FrameAnswer}
-use Rattle.apdu.specs.declared.frame.FrameAnswer.TheVariants.{Refused}
+use Rattle.apdu.specs.Reading.{outer_refusal, short_answer, long_answer, frame_answer}
+use Rattle.std.specs.Prelude.{Option, Some, None, Result, Ok, Err}
+use Rattle.elements.specs.Refusals.{answer_number}
+use Rattle.elements.specs.declared.refusals.Refusal.{Refusal}
+use Rattle.apdu.specs.declared.frame.Frame.{Frame}
 
 -- ---- choices
 
@@ -33,7 +39,6 @@ pick_most true p q = p
 pick_most false p q = q
 
 then_most : {m : ℕ} (x y : ℕ) → x ≤ m → y ≤ m → (x then y) ≤ m
-unfolding ◌then◌
 then_most x y p q = pick_most (eqb x 0) q p
 
 -- ---- an ASDU
@@ -45,9 +50,9 @@ module _ (m : ℕ) (h : 14 ≤ m) where
   layout_most k q n len =
       pick_most (eqb len (needed k q n)) (pick_most (q && (eqb n 0 || eqb (size_of k) 0)) (omega arith) (omega arith)) (omega arith)
 
-  kind_most : (a : KindAnswer) (s : List ℕ) → header_refusal_by a s ≤ m
-  kind_most NotCarried s = omega arith
-  kind_most (Carried k) s = layout_most k (sequence_in s) (count_in s) (length s)
+  kind_most : (a : Option Kind) (s : List ℕ) → header_refusal_by a s ≤ m
+  kind_most None s = omega arith
+  kind_most (Some k) s = layout_most k (sequence_in s) (count_in s) (length s)
 
   early_most : (s : List ℕ) → (ltb 249 (length s) ≡ true → 17 ≤ m) → early_refusal s ≤ m
   unfolding early_refusal
@@ -64,11 +69,12 @@ module _ (m : ℕ) (h : 14 ≤ m) where
   unfolding header_refusal
   header_most s long = then_most (early_refusal s) (header_refusal_by (kind_of (get_or s 0 0)) s) (early_most s long) (kind_most (kind_of (get_or s 0 0)) s)
 
-  answer_most : (b : Bool) (o : Object) → object_number (pick b (ObjectAnswer.Refused (refusal wrong_address)) (ObjectAnswer.Object o)) ≤ m
+  answer_most : (b : Bool) (o : Object) → answer_number (pick {A = Result Object Refusal} b (Err (refusal wrong_address)) (Ok o)) ≤ m
+  unfolding refusal
   answer_most true o = omega arith
   answer_most false o = omega arith
 
-  object_most : (g : Header) (s : List ℕ) (i : ℕ) → object_number (answer_at g s i) ≤ m
+  object_most : (g : Header) (s : List ℕ) (i : ℕ) → answer_number (answer_at g s i) ≤ m
   unfolding answer_at object_answer
   object_most g s i = answer_most (ltb 16777215 (object_at g s i).address) _
 
@@ -79,19 +85,58 @@ module _ (m : ℕ) (h : 14 ≤ m) where
 
   objects_most : (g : Header) (s : List ℕ) → objects_refusal g s ≤ m
   unfolding objects_refusal
-  objects_most g s = first_most (λ (i : ℕ). object_number (answer_at g s i)) (object_most g s) 0 g.count
+  objects_most g s = first_most (λ (i : ℕ). answer_number (answer_at g s i)) (object_most g s) 0 g.count
 
-  by_most : (a : KindAnswer) (s : List ℕ) → refusal_by (header_by a s) s ≤ m
-  by_most NotCarried s = omega arith
-  by_most (Carried k) s = objects_most _ s
+  by_most : (a : Option Kind) (s : List ℕ) → objects_refusal_by a s ≤ m
+  by_most None s = omega arith
+  by_most (Some k) s = objects_most _ s
 
   pub read_most : (s : List ℕ) → (ltb 249 (length s) ≡ true → 17 ≤ m) → read_refusal s ≤ m
-  unfolding read_refusal header_answer
-  read_most s long = by (eqb (header_refusal s) 0)
-    where
-      by : (b : Bool) → refusal_by (pick b (header_by (kind_of (get_or s 0 0)) s) (HeaderAnswer.Refused (refusal (header_refusal s)))) s ≤ m
-      by true = by_most (kind_of (get_or s 0 0)) s
-      by false = header_most s long
+  unfolding read_refusal
+  read_most s long = then_most (header_refusal s) (objects_refusal_by (kind_of (get_or s 0 0)) s) (header_most s long) (by_most (kind_of (get_or s 0 0)) s)
+
+-- ---- a record that is written
+
+value_most : (v : Value) → value_refusal v ≤ 33
+unfolding value_refusal
+value_most (Value.MSpNa1 q) = omega arith
+value_most (Value.MDpNa1 q) = omega arith
+value_most (Value.MStNa1 v) = answer_high (vti_answer v)
+value_most (Value.MBoNa1 q n) = omega arith
+value_most (Value.MMeNa1 n q) = omega arith
+value_most (Value.MMeNb1 n q) = omega arith
+value_most (Value.MMeNc1 q n) = omega arith
+value_most (Value.MItNa1 n q) = answer_high (seq_qd_answer q)
+value_most (Value.MMeNd1 n) = omega arith
+value_most (Value.MEiNa1 c) = answer_high (coi_answer c)
+value_most (Value.CIcNa1 n) = omega arith
+value_most (Value.CCiNa1 n) = omega arith
+value_most Value.CRdNa1 = omega arith
+
+written_object_most : (k : Kind) (q : Bool) (first i : ℕ) (o : Object) → object_refusal k q first i o ≤ 33
+unfolding object_refusal kind_refusal address_refusal
+written_object_most k q first i o =
+    then_most _ _ (pick_most (eqb (type_of (value_kind o.value)) (type_of k)) (omega arith) (omega arith))
+    (then_most _ _
+    (pick_most (ltb 16777215 o.address) (omega arith) (pick_most q (pick_most (eqb o.address (first + i)) (omega arith) (omega arith)) (omega arith)))
+    (value_most o.value))
+
+written_objects_most : (k : Kind) (q : Bool) (first i : ℕ) (os : List Object) → first_refusal k q first i os ≤ 33
+unfolding first_refusal
+written_objects_most k q first i [] = omega arith
+written_objects_most k q first i (o ∷ os) = then_most _ _ (written_object_most k q first i o) (written_objects_most k q first (suc i) os)
+
+pub write_most : (a : Asdu) (room : ℕ) → write_refusal a room ≤ 33
+unfolding write_refusal write_refusal_by shape_refusal size_refusal
+write_most a room = pick_most (cause_listed a.cause) (by (kind_of a.type_id)) (omega arith)
+  where
+    by : (f : Option Kind) → write_refusal_by f a room ≤ 33
+    by None = omega arith
+    by (Some k) =
+        then_most _ _
+        (pick_most (ltb 127 a.count) (omega arith) (pick_most (a.sequence && (eqb a.count 0 || eqb (size_of k) 0)) (omega arith) (omega arith)))
+        (then_most _ _ (written_objects_most k a.sequence (first_address a) 0 (own_objects a))
+        (pick_most (ltb 249 (needed k a.sequence a.count)) (omega arith) (pick_most (ltb room (needed k a.sequence a.count)) (omega arith) (omega arith))))
 
 -- ---- a frame
 
@@ -113,15 +158,15 @@ bounded f h =
     let d = held (eqb (length f) (2 + get_or f 1 0)) 3 _ c.1 in
     omega (arith, ltb-false 253 (get_or f 1 0) c.0, eqb-true (length f) (2 + get_or f 1 0) d.0)
 
-record Low (a : FrameAnswer) : Type 0 where
-  most : frame_number a ≤ 14
+record Low (a : Result Frame Refusal) : Type 0 where
+  most : answer_number a ≤ 14
 
-low_pick : {x y : FrameAnswer} (b : Bool) → Low x → Low y → Low (pick b x y)
+low_pick : {x y : Result Frame Refusal} (b : Bool) → Low x → Low y → Low (pick b x y)
 low_pick true p q = p
 low_pick false p q = q
 
 short_low : (f : List ℕ) → Low (short_answer f)
-unfolding short_answer
+unfolding short_answer refusal
 short_low f =
     low_pick (eqb (get_or f 2 0 % 4) 3)
     (low_pick (eqb (get_or f 3 0) 0 && eqb (le_of 2 (drop 4 f)) 0) (record { most = omega arith }) (record { most = omega arith }))
@@ -134,13 +179,13 @@ unfolding long_answer
 long_low f h =
     let short : ltb 249 (length (drop 6 f)) ≡ true → 17 ≤ 14 = λ e. absurd (omega (arith, ltb-true 249 (length (drop 6 f)) e, length-drop 6 f)) in
     low_pick (eqb (get_or f 2 0 % 2) 0 && eqb (get_or f 4 0 % 2) 0)
-    (low_pick (eqb (read_refusal (drop 6 f)) 0) (record { most = omega arith }) (record { most = read_most 14 (omega arith) (drop 6 f) short }))
-    (record { most = omega arith })
+    (low_pick (eqb (read_refusal (drop 6 f)) 0) (record { most = omega arith }) (record { most = number_low 14 _ (omega arith) (omega arith) (read_most 14 (omega arith) (drop 6 f) short) }))
+    (record { most = number_low 14 bad_i_control (omega arith) (omega arith) (omega arith) })
 
-pub frame_most : (f : List ℕ) → frame_number (frame_answer f) ≤ 14
+pub frame_most : (f : List ℕ) → answer_number (frame_answer f) ≤ 14
 unfolding frame_answer
 frame_most f = (by (eqb (outer_refusal f) 0) refl).most
   where
-    by : (b : Bool) → eqb (outer_refusal f) 0 ≡ b → Low (pick b (pick (eqb (get_or f 1 0) 4) (short_answer f) (long_answer f)) (Refused (refusal (outer_refusal f))))
+    by : (b : Bool) → eqb (outer_refusal f) 0 ≡ b → Low (pick b (pick (eqb (get_or f 1 0) 4) (short_answer f) (long_answer f)) (Err (refusal (outer_refusal f))))
     by true e = low_pick (eqb (get_or f 1 0) 4) (short_low f) (long_low f (bounded f (eqb-true (outer_refusal f) 0 e)))
-    by false e = record { most = outer_most f }
+    by false e = record { most = number_low 14 _ (omega arith) (omega arith) (outer_most f) }

@@ -8,12 +8,12 @@ use native.Mathlib.Nat.{zero-mul}
 use lib.ListN.{length, drop, take}
 use lib.Seq.{drop_at, drop-drop}
 use borrow.Author.Tests.{le-ltb}
-use Rattle.laws.specs.Choice.{pick, ◌then◌}
+use Rattle.laws.specs.Choice.{pick}
 use Rattle.laws.specs.Lists.{tabulate}
 use Rattle.laws.specs.Numbers.{le_of, le_octets}
 use Rattle.laws.proofs.Numbers.{reads_back as number_back, length_octets}
 use Rattle.objects.specs.Elements.{element_of, element_octets}
-use Rattle.objects.specs.Objects.{object_of, object_octets, object_answer, object_number}
+use Rattle.objects.specs.Objects.{object_of, object_octets, object_answer}
 use Rattle.objects.specs.Promises.{Typed}
 use Rattle.objects.specs.declared.kinds.Kind.{Kind}
 use Rattle.objects.specs.declared.Object.{Object}
@@ -25,12 +25,13 @@ use Rattle.asdu.specs.Records.{filled, asdu_of}
 use Rattle.asdu.specs.Reading.{object_in, object_at, answer_at, first_number, objects_refusal, objects_in, read_asdu}
 use Rattle.asdu.specs.Writing.{own_objects, first_address, first_refusal, header_octets, body_octets, objects_octets, address_octets, asdu_octets}
 use Rattle.asdu.specs.declared.Asdu.{Asdu}
-use Rattle.asdu.specs.declared.Answer.{Answer}
 use Rattle.asdu.specs.declared.header.Header.{Header}
-use Rattle.asdu.specs.declared.header.HeaderAnswer.{HeaderAnswer}
 use Rattle.asdu.proofs.Lengths.{fits, body_long, address_long, needed_parts, needed_next, Writable, writable, own_long, asdu_long}
 use Rattle.promises.specs.Asdus.{TypedObjects, TypedAsdu, Back, ReadBack, AsduReadsBack}
-use Rattle.promises.proofs.Bodies.{head_octets, long_head, Fields, header_passes, after_head, read_passes, read_is, own_back, past_blank}
+use Rattle.asdu.proofs.Checked.{read_passes}
+use Rattle.promises.proofs.Bodies.{head_octets, long_head, Fields, header_passes, after_head, read_is, own_back, past_blank}
+use Rattle.std.specs.Prelude.{Ok}
+use Rattle.elements.specs.Refusals.{answer_number}
 
 -- ---- objects come back
 
@@ -50,19 +51,19 @@ object_back k false s first i o rest f t l e =
     rw (g, drop_at (le_octets 3 o.address) (element_octets o.value ++ rest) 3 (length_octets 3 o.address), ← f.kind) (element_level.back o.value rest t f.value) in
     λ j. record { address = a j; value = v j }
 
-small_passes : (h : Header) (s : List ℕ) (i : ℕ) → (object_at h s i).address ≤ 16777215 → object_number (answer_at h s i) ≡ 0
+small_passes : (h : Header) (s : List ℕ) (i : ℕ) → (object_at h s i).address ≤ 16777215 → answer_number (answer_at h s i) ≡ 0
 unfolding answer_at object_answer
 small_passes h s i l = rw (le-ltb 16777215 (object_at h s i).address l)
 
 -- all of them, and none is refused
 record AllBack (h : Header) (s : List ℕ) (i : ℕ) (os : List Object) : Type 0 where
   are : tabulate (object_at h s) i (length os) ≡ os
-  pass : first_number (λ (j : ℕ). object_number (answer_at h s j)) i (length os) ≡ 0
+  pass : first_number (λ (j : ℕ). answer_number (answer_at h s j)) i (length os) ≡ 0
 
 all_back : (h : Header) (s : List ℕ) (first : ℕ) → (h.sequence ≡ true → le_of 3 (drop 6 s) ≡ first)
     → (i : ℕ) (os : List Object) → first_refusal h.kind h.sequence first i os ≡ 0 → TypedObjects os
     → drop (needed h.kind h.sequence i) s ≡ objects_octets h.sequence os → AllBack h s i os
-unfolding objects_octets tabulate first_number ◌then◌
+unfolding objects_octets tabulate first_number
 all_back h s first l i [] r t e = record { are = refl; pass = refl }
 all_back h s first l i (o ∷ os) r t e =
     let k = h.kind in
@@ -74,7 +75,7 @@ all_back h s first l i (o ∷ os) r t e =
     ∙ (ap (drop (step_of k q)) e ∙ drop_at (body_octets q o) (objects_octets q os) (step_of k q) (body_long k q o f.kind))) in
     let one : object_at h s i ≡ o = object_back k q s first i o (objects_octets q os) f t.1.0 l e in
     let more = all_back h s first l (suc i) os r' t.1.1 e' in
-    let none : object_number (answer_at h s i) ≡ 0 = small_passes h s i (rw one f.small) in
+    let none : answer_number (answer_at h s i) ≡ 0 = small_passes h s i (rw one f.small) in
     record { are = rw (one, more.are); pass = rw (none, more.pass) }
 
 -- ---- the record comes back
@@ -118,7 +119,7 @@ first_back false s first l e h g = let z : ◌≡◌ {A = ℕ} 0 1 = cc in absur
 
 objects_pass : (h : Header) (s : List ℕ) (os : List Object) → length os ≡ h.count → AllBack h s 0 os → (objects_refusal h s ≡ 0) × (objects_in h s ≡ os)
 unfolding objects_refusal
-objects_pass h s os n b = (ap (first_number (λ (j : ℕ). object_number (answer_at h s j)) 0) (sym n) ∙ b.pass, ap (tabulate (object_at h s) 0) (sym n) ∙ b.are)
+objects_pass h s os n b = (ap (first_number (λ (j : ℕ). answer_number (answer_at h s j)) 0) (sym n) ∙ b.pass, ap (tabulate (object_at h s) 0) (sym n) ∙ b.are)
 
 -- a record that is not refused: its octets are six of its header and the body, and reading them gives it again
 module _ (k : Kind) (a : Asdu) (room : ℕ) (w : Writable k a room) (t : TypedAsdu a) where
@@ -135,7 +136,7 @@ module _ (k : Kind) (a : Asdu) (room : ℕ) (w : Writable k a room) (t : TypedAs
   whole_long : 6 + length (body a) ≡ needed k a.sequence a.count
   whole_long = omega (arith, long_head (header_for k a) (body a), ap length octets_are, asdu_long k a room w t.array)
 
-  answered : header_answer (asdu_octets a) ≡ HeaderAnswer.Header (header_for k a)
+  answered : header_answer (asdu_octets a) ≡ Ok (header_for k a)
   answered = rw octets_are (header_passes (header_for k a) (body a) fields whole_long (omega (arith, whole_long, w.short)) w.some)
 
   after : drop 6 (asdu_octets a) ≡ body a
@@ -167,10 +168,10 @@ module _ (k : Kind) (a : Asdu) (room : ℕ) (w : Writable k a room) (t : TypedAs
 
   read_back : ReadBack a
   read_back =
-      let is : read_asdu (asdu_octets a) ≡ record { asdu = asdu_of (header_for k a) (filled (own_objects a)); answer = Answer.Accepted } =
-      read_is (header_for k a) (asdu_octets a) answered objects.0 ∙ ap (λ (os : List Object). record { asdu = asdu_of (header_for k a) (filled os); answer = Answer.Accepted }) objects.1 in
+      let is : read_asdu (asdu_octets a) ≡ record { asdu = asdu_of (header_for k a) (filled (own_objects a)); answer = Ok tt } =
+      read_is (header_for k a) (asdu_octets a) answered objects.0 ∙ ap (λ (os : List Object). record { asdu = asdu_of (header_for k a) (filled os); answer = Ok tt }) objects.1 in
       record {
-        accepted = read_passes (header_for k a) (asdu_octets a) answered objects.0;
+        accepted = read_passes (asdu_octets a) (header_for k a) answered objects.0;
         answered = rw is;
         back = rw is back_is;
       }

@@ -15,15 +15,18 @@ use Rattle.laws.proofs.Lists.{octets_drop}
 use Rattle.elements.specs.Refusals.{refusal}
 use Rattle.objects.specs.Kinds.{form_of}
 use Rattle.objects.specs.declared.kinds.Kind.{Kind}
-use Rattle.asdu.specs.Header.{step_of, needed, sequence_in, count_in, header_in, header_answer}
-use Rattle.asdu.specs.Reading.{read_refusal, read_asdu}
+use Rattle.asdu.specs.Header.{step_of, needed, sequence_in, count_in, header_in}
+use Rattle.asdu.specs.Reading.{read_refusal, checked_header, read_asdu}
 use Rattle.asdu.specs.Writing.{asdu_octets}
-use Rattle.asdu.specs.Plain.{plain_form, plain_element, plain_objects, plain_by, plain_answer}
-use Rattle.asdu.specs.declared.PlainAnswer.TheVariants as PlainAnswer
+use Rattle.asdu.specs.Plain.{plain_form, plain_element, plain_objects, plain_answer}
 use Rattle.asdu.proofs.Kept.{Apart, apart_form, apart_append, plain_kept, kept_plain, plain_append, Covered, plain_covered}
+use Rattle.laws.specs.Choice.{pick}
+use Rattle.asdu.proofs.Checked.{checked_is}
 use Rattle.promises.specs.Asdus.{times, body_form, Told, Tells}
 use Rattle.promises.proofs.Bodies.{Accepted, accepted, header_taken}
 use Rattle.promises.proofs.WriteAgain.{unit_form, address_form, body_form_law, next_unit, after_address, form_long, written}
+use Rattle.std.specs.Prelude.{Ok, Err}
+use Rattle.asdu.specs.declared.Form.TheVariants.{Plain, Reserved}
 
 -- ---- the fields of every form lie apart
 
@@ -102,8 +105,12 @@ module _ (k : Kind) (s : List ℕ) (o : Octets s) (c : Accepted k s) where
   abbrev form : List Layout
   form = replicate 6 whole ++ body_form (sequence_in s) k (count_in s)
 
-  test_is : plain_by (header_answer s) s ≡ plain_form form s
-  test_is = rw (header_taken k s c.headed) (sym (form_plain k s o))
+  test_is : plain_objects (header_in k s) s ≡ plain_form form s
+  test_is = sym (form_plain k s o)
+
+  answer_is : plain_answer s ≡ Ok (pick (plain_objects (header_in k s) s) Plain Reserved)
+  unfolding plain_answer
+  answer_is = rw (checked_is s (header_in k s) (header_taken k s c.headed) c.none)
 
   long : length form ≡ length s
   long = form_long k (sequence_in s) (count_in s) ∙ sym c.headed.long
@@ -112,28 +119,25 @@ module _ (k : Kind) (s : List ℕ) (o : Octets s) (c : Accepted k s) where
   all = ap (λ (n : ℕ). take n s) long ∙ take-length s
 
   -- plain by the test exactly if writing the reading gives the same octets
-  same_if : plain_by (header_answer s) s ≡ true → asdu_octets (read_asdu s).asdu ≡ s
+  same_if : plain_objects (header_in k s) s ≡ true → asdu_octets (read_asdu s).asdu ≡ s
   same_if p = written k s o c ∙ (plain_kept form s (form_apart (sequence_in s) k (count_in s)) (le_of_eq long) (sym test_is ∙ p) ∙ all)
 
-  only_if : asdu_octets (read_asdu s).asdu ≡ s → plain_by (header_answer s) s ≡ true
+  only_if : asdu_octets (read_asdu s).asdu ≡ s → plain_objects (header_in k s) s ≡ true
   only_if e = test_is ∙ kept_plain form s (le_of_eq long) (sym (written k s o c) ∙ (e ∙ sym all))
 
 -- plain or reserved by the test, where nothing is refused
 module _ (s : List ℕ) (o : Octets s) where
-  by_test : (t : Bool) → plain_by (header_answer s) s ≡ t → read_refusal s ≡ 0 → Told s
-  unfolding plain_answer
-  by_test true p r =
-      let (k, c) = accepted s r in
-      let is : plain_answer s ≡ PlainAnswer.Plain = rw (r, p) in
+  by_test : (k : Kind) (c : Accepted k s) (t : Bool) → plain_objects (header_in k s) s ≡ t → read_refusal s ≡ 0 → Told s
+  by_test k c true p r =
+      let is : plain_answer s ≡ Ok Plain = answer_is k s o c ∙ rw p in
       let same = same_if k s o c p in
       record {
         plain = ((λ a. (r, same)), (λ x. is));
         differs = ((λ a. let z : ◌≡◌ {A = ℕ} 0 1 = cc in absurd (omega arith)), (λ x. absurd (x.1 same)));
         refused = λ n. absurd (n r);
       }
-  by_test false p r =
-      let (k, c) = accepted s r in
-      let is : plain_answer s ≡ PlainAnswer.Reserved = rw (r, p) in
+  by_test k c false p r =
+      let is : plain_answer s ≡ Ok Reserved = answer_is k s o c ∙ rw p in
       let differs : asdu_octets (read_asdu s).asdu ≡ s → ⊥ = λ e. let g = only_if k s o c e in let z : ◌≡◌ {A = ℕ} 0 1 = cc in omega arith in
       record {
         plain = ((λ a. let z : ◌≡◌ {A = ℕ} 0 1 = cc in absurd (omega arith)), (λ x. absurd (differs x.1)));
@@ -142,9 +146,9 @@ module _ (s : List ℕ) (o : Octets s) where
       }
 
   refused : eqb (read_refusal s) 0 ≡ false → Told s
-  unfolding plain_answer
+  unfolding plain_answer checked_header
   refused h =
-      let is : plain_answer s ≡ PlainAnswer.Refused (refusal (read_refusal s)) = rw h in
+      let is : plain_answer s ≡ Err (refusal (read_refusal s)) = rw h in
       let not = eqb-false (read_refusal s) 0 h in
       record {
         plain = ((λ a. let z : ◌≡◌ {A = ℕ} 0 1 = cc in absurd (omega arith)), (λ x. absurd (not x.0)));
@@ -157,5 +161,5 @@ pub tells : Tells
 tells s o = by (eqb (read_refusal s) 0) refl
   where
     by : (t : Bool) → eqb (read_refusal s) 0 ≡ t → Told s
-    by true e = by_test s o (plain_by (header_answer s) s) refl (eqb-true (read_refusal s) 0 e)
+    by true e = let r = eqb-true (read_refusal s) 0 e in let (k, c) = accepted s r in by_test s o k c (plain_objects (header_in k s) s) refl r
     by false e = refused s o e

@@ -9,7 +9,7 @@ use borrow.Author.Tests.{eq-eqb, le-ltb}
 use lib.ListN.{length, get_or, take, drop, replicate, length-append, length-drop}
 use lib.Seq.{drop-drop, drop-nil}
 use Rattle.laws.specs.Bits.{Layout, whole, kept}
-use Rattle.laws.specs.Choice.{pick, ◌then◌}
+use Rattle.laws.specs.Choice.{pick}
 use Rattle.laws.specs.Lists.{Octets, tabulate, padded}
 use Rattle.laws.specs.Numbers.{le_of}
 use Rattle.laws.proofs.Lists.{octets_drop, length_tabulate}
@@ -19,7 +19,6 @@ use Rattle.objects.specs.Elements.{element_of, value_refusal}
 use Rattle.objects.specs.Objects.{blank, object_of, object_octets, kind_refusal, address_refusal, object_refusal}
 use Rattle.objects.specs.Promises.{kept_by}
 use Rattle.objects.specs.declared.kinds.Kind.{Kind}
-use Rattle.objects.specs.declared.kinds.KindAnswer.TheVariants.{Carried}
 use Rattle.objects.specs.declared.Object.{Object}
 use Rattle.objects.proofs.TypeNumbers.{kind_type}
 use Rattle.objects.proofs.Elements.{element_level, kept_wholes}
@@ -32,6 +31,7 @@ use Rattle.asdu.specs.declared.ReadAsdu.{ReadAsdu}
 use Rattle.asdu.proofs.Lengths.{some_passes, needed_parts, needed_next}
 use Rattle.promises.specs.Asdus.{times, body_form, asdu_form, WrittenAgain, AsduWritesAgain}
 use Rattle.promises.proofs.Bodies.{head_read, Accepted, accepted, header_taken, rising, read_is, own_back}
+use Rattle.std.specs.Prelude.{Some}
 
 -- ---- what forms keep
 
@@ -170,10 +170,10 @@ first_filled f (suc n) h = refl
 -- ---- what the writer accepts
 
 -- the record: no refusal of cause, type, shape, objects or room
-record_accepted : (a : Asdu) (k : Kind) (room : ℕ) → cause_listed a.cause ≡ true → kind_of a.type_id ≡ Carried k → a.count ≤ 127
+record_accepted : (a : Asdu) (k : Kind) (room : ℕ) → cause_listed a.cause ≡ true → kind_of a.type_id ≡ Some k → a.count ≤ 127
     → (a.sequence ≡ true → (1 ≤ a.count) × (1 ≤ size_of k)) → first_refusal k a.sequence (first_address a) 0 (own_objects a) ≡ 0
     → needed k a.sequence a.count ≤ 249 → needed k a.sequence a.count ≤ room → write_refusal a room ≡ 0
-unfolding write_refusal write_refusal_by shape_refusal size_refusal ◌then◌
+unfolding write_refusal write_refusal_by shape_refusal size_refusal
 record_accepted a k room c e n q f l r =
     let long = needed k a.sequence a.count in
     rw (c, e, le-ltb 127 a.count n, some_passes a.sequence a.count (size_of k) q, f, le-ltb 249 long l, le-ltb room long r)
@@ -181,13 +181,13 @@ record_accepted a k room c e n q f l r =
 -- an object of the kind with an address in its place, and all of them
 object_accepted : (k : Kind) (q : Bool) (first i : ℕ) (o : Object) → value_kind o.value ≡ k → value_refusal o.value ≡ 0 → o.address < 16777216
     → (q ≡ true → o.address ≡ first + i) → object_refusal k q first i o ≡ 0
-unfolding object_refusal kind_refusal address_refusal ◌then◌
+unfolding object_refusal kind_refusal address_refusal
 object_accepted k true first i o e v l a = rw (e, eq-eqb (type_of k) (type_of k) refl, le-ltb 16777215 o.address (omega arith), eq-eqb o.address (first + i) (a refl), v)
 object_accepted k false first i o e v l a = rw (e, eq-eqb (type_of k) (type_of k) refl, le-ltb 16777215 o.address (omega arith), v)
 
 objects_accepted : (k : Kind) (q : Bool) (first : ℕ) (f : ℕ → Object) (m i : ℕ) → ((j : ℕ) → j < i + m → object_refusal k q first j (f j) ≡ 0)
     → first_refusal k q first i (tabulate f i m) ≡ 0
-unfolding first_refusal tabulate ◌then◌
+unfolding first_refusal tabulate
 objects_accepted k q first f zero i h = refl
 objects_accepted k q first f (suc m) i h = rw (h i (omega arith)) (objects_accepted k q first f m (suc i) (λ j b. h j (omega arith)))
 

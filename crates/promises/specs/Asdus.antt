@@ -5,20 +5,22 @@ use Rattle.laws.specs.Lists.{Octets}
 use Rattle.laws.specs.Numbers.{le_of, le_octets}
 use Rattle.elements.specs.Refusals.{refusal}
 use Rattle.objects.specs.Kinds.{type_of, kind_of, kind_number, size_of, form_of}
-use Rattle.objects.specs.Objects.{object_answer, object_number, object_given}
+use Rattle.objects.specs.Objects.{object_answer, object_given}
 use Rattle.objects.specs.Promises.{Typed, kept_by}
 use Rattle.objects.specs.declared.kinds.Kind.{Kind}
-use Rattle.objects.specs.declared.kinds.KindAnswer.TheVariants.{Carried}
 use Rattle.objects.specs.declared.values.Value.{Value}
 use Rattle.objects.specs.declared.Object.{Object}
 use Rattle.asdu.specs.Header.{count_layout, cause_layout, cause_listed, needed, header_answer}
-use Rattle.asdu.specs.Records.{answer_number, blanks}
+use Rattle.asdu.specs.Records.{blanks}
 use Rattle.asdu.specs.Reading.{read_refusal, read_asdu}
-use Rattle.asdu.specs.Writing.{own_objects, write_refusal, asdu_octets, write_answer, write_number, written_count}
-use Rattle.asdu.specs.Plain.{plain_answer, plain_number}
+use Rattle.asdu.specs.Writing.{own_objects, write_refusal, asdu_octets, write_answer, written_count}
+use Rattle.asdu.specs.Plain.{plain_answer}
 use Rattle.asdu.specs.declared.Asdu.{Asdu}
-use Rattle.asdu.specs.declared.PlainAnswer.TheVariants as PlainAnswer
-use Rattle.asdu.specs.declared.header.HeaderAnswer.{HeaderAnswer}
+use Rattle.asdu.specs.declared.header.Header.{Header}
+use Rattle.std.specs.Prelude.{Some, Result, Ok, Err}
+use Rattle.elements.specs.Refusals.{answer_number}
+use Rattle.elements.specs.declared.refusals.Refusal.{Refusal}
+use Rattle.asdu.specs.declared.Form.TheVariants.{Plain, Reserved}
 
 -- ---- records
 
@@ -77,9 +79,9 @@ body_form true k n = replicate 3 whole ++ times n (form_of k)
 body_form false k n = times n (replicate 3 whole ++ form_of k)
 
 -- the layouts of all octets of an ASDU, in wire order, six of the header and then the body: only those of elements may reserve bits
-abbrev pub asdu_form : HeaderAnswer → List Layout
-asdu_form (HeaderAnswer.Refused r) = []
-asdu_form (HeaderAnswer.Header h) = replicate 6 whole ++ body_form h.sequence h.kind h.count
+abbrev pub asdu_form : Result Header Refusal → List Layout
+asdu_form (Err r) = []
+asdu_form (Ok h) = replicate 6 whole ++ body_form h.sequence h.kind h.count
 
 -- "What the reader accepts and we write again differs only in the reserved bits": where there is room the writer accepts it,
 -- and it writes as many octets, each with just what its layout keeps.
@@ -96,9 +98,9 @@ AsduWritesAgain = (s : List ℕ) (room : ℕ) → Octets s → read_refusal s �
 -- "a call tells exactly whether it differs": plain exactly if it reads and writing its reading gives the same octets, reserved
 -- exactly if it reads and the octets differ; "one that does not read gets the reading's refusal"
 pub record Told (s : List ℕ) : Type 0 where
-  pub plain : (plain_answer s ≡ PlainAnswer.Plain) ↔ ((read_refusal s ≡ 0) × (asdu_octets (read_asdu s).asdu ≡ s))
-  pub differs : (plain_answer s ≡ PlainAnswer.Reserved) ↔ ((read_refusal s ≡ 0) × (asdu_octets (read_asdu s).asdu ≡ s → ⊥))
-  pub refused : (read_refusal s ≡ 0 → ⊥) → plain_answer s ≡ PlainAnswer.Refused (refusal (read_refusal s))
+  pub plain : (plain_answer s ≡ Ok Plain) ↔ ((read_refusal s ≡ 0) × (asdu_octets (read_asdu s).asdu ≡ s))
+  pub differs : (plain_answer s ≡ Ok Reserved) ↔ ((read_refusal s ≡ 0) × (asdu_octets (read_asdu s).asdu ≡ s → ⊥))
+  pub refused : (read_refusal s ≡ 0 → ⊥) → plain_answer s ≡ Err (refusal (read_refusal s))
 
 abbrev pub Tells : Type 0
 Tells = (s : List ℕ) → Octets s → Told s
@@ -151,14 +153,14 @@ pub record Accepts (s : List ℕ) : Type 0 where
 -- the number that each call answers is the refusal that the other promises speak of; a refused ASDU gets the reading's
 pub record AnswerNumbers : Type 0 where
   -- 11: the carried types, and only they, have a kind
-  pub carried : (k : Kind) → kind_of (type_of k) ≡ Carried k
+  pub carried : (k : Kind) → kind_of (type_of k) ≡ Some k
   pub not_carried : (t : ℕ) → (kind_number (kind_of t) ≡ 0) ↔ ((k : Kind) × (t ≡ type_of k))
   -- 14 of an object that is read: its address is above 16,777,215; else the object is the one at this address
-  pub addressed : (a : ℕ) (v : Value) → (object_number (object_answer a v) ≡ 0) ↔ (a ≤ 16777215)
+  pub addressed : (a : ℕ) (v : Value) → (answer_number (object_answer a v) ≡ 0) ↔ (a ≤ 16777215)
   pub given : (a : ℕ) (v : Value) → a ≤ 16777215 → object_given (object_answer a v) ≡ record { address = a; value = v }
   pub reading : (s : List ℕ) → answer_number (read_asdu s).answer ≡ read_refusal s
-  pub telling : (s : List ℕ) → plain_number (plain_answer s) ≡ read_refusal s
-  pub writing : (a : Asdu) (room : ℕ) → write_number (write_answer a room) ≡ write_refusal a room
+  pub telling : (s : List ℕ) → answer_number (plain_answer s) ≡ read_refusal s
+  pub writing : (a : Asdu) (room : ℕ) → answer_number (write_answer a room) ≡ write_refusal a room
   pub counting : (a : Asdu) (room : ℕ) → write_refusal a room ≡ 0 → written_count (write_answer a room) ≡ length (asdu_octets a)
 
 -- ---- all of it

@@ -8,14 +8,14 @@ use Rattle.objects.specs.declared.values.Value.TheVariants as Value
 use Rattle.asdu.specs.Reading.{read_asdu}
 use Rattle.asdu.specs.Plain.{plain_answer}
 use Rattle.asdu.specs.Writing.{own_objects}
-use Rattle.asdu.specs.declared.Answer.TheVariants as Answer
-use Rattle.asdu.specs.declared.PlainAnswer.TheVariants as PlainAnswer
 use Rattle.apdu.specs.Control.{send_number, receive_number}
 use Rattle.apdu.specs.Reading.{frame_answer, asdu_part}
 use Rattle.apdu.specs.Plain.{plain_frame}
-use Rattle.apdu.specs.declared.frame.FrameAnswer.TheVariants.{I, S, U, Refused}
 use Rattle.link_state.specs.Acknowledging.{acknowledged}
-use Rattle.link_state.specs.declared.acknowledging.AckAnswer.{AckAnswer}
+use Rattle.std.specs.Prelude.{Result, Ok, Err}
+use Rattle.elements.specs.declared.refusals.Refusal.{Refusal}
+use Rattle.apdu.specs.declared.frame.Frame.TheVariants.{I, S, U}
+use Rattle.asdu.specs.declared.Form.TheVariants.{Plain, Reserved}
 
 -- ---- what reading answers
 
@@ -50,32 +50,32 @@ pub data Case : Type 0 where
 
 -- the octets are an ASDU that is accepted, and these are its objects
 abbrev pub Holding : List ℕ → List Object → Type 0
-Holding s os = ((read_asdu s).answer ≡ Answer.Accepted) × (own_objects (read_asdu s).asdu ≡ os)
+Holding s os = ((read_asdu s).answer ≡ Ok tt) × (own_objects (read_asdu s).asdu ≡ os)
 
 abbrev pub Reads : List ℕ → Reading → Type 0
-Reads f (frame_refused n) = (frame_answer f ≡ Refused (refusal n)) × (plain_frame f ≡ PlainAnswer.Refused (refusal n))
-Reads f (u_frame a b c d e g) = frame_answer f ≡ U (record {
+Reads f (frame_refused n) = (frame_answer f ≡ Err (refusal n)) × (plain_frame f ≡ Err (refusal n))
+Reads f (u_frame a b c d e g) = frame_answer f ≡ Ok (U (record {
   start_act = a;
   start_con = b;
   stop_act = c;
   stop_con = d;
   test_act = e;
   test_con = g;
-})
-Reads f (s_frame r plain) = (frame_answer f ≡ S (receive_number r)) × (plain_frame f ≡ pick plain PlainAnswer.Plain PlainAnswer.Reserved)
-Reads f (i_frame s r os) = (frame_answer f ≡ I (send_number s) (receive_number r)) × Holding (asdu_part f) os
-Reads s (asdu_refused n) = ((read_asdu s).answer ≡ Answer.Refused (refusal n)) × (plain_answer s ≡ PlainAnswer.Refused (refusal n))
+}))
+Reads f (s_frame r plain) = (frame_answer f ≡ Ok (S (receive_number r))) × (plain_frame f ≡ pick plain (Ok Plain) (Ok Reserved))
+Reads f (i_frame s r os) = (frame_answer f ≡ Ok (I (send_number s) (receive_number r))) × Holding (asdu_part f) os
+Reads s (asdu_refused n) = ((read_asdu s).answer ≡ Err (refusal n)) × (plain_answer s ≡ Err (refusal n))
 Reads s (asdu os) = Holding s os
 
 -- S I frames were handed out and A of them are confirmed: S − A are outstanding, and the next has S's remainder as its number
-abbrev pub answer : ℕ → ℕ → ℕ → AckAnswer
+abbrev pub answer : ℕ → ℕ → ℕ → Result ℕ Refusal
 answer s a number = acknowledged (s % 32768) (s - a) number
 
 abbrev pub Acknowledges : ℕ → ℕ → Acknowledging → Type 0
-Acknowledges s a (frees number d) = answer s a number ≡ AckAnswer.Frees d
-Acknowledges s a (refuses number n) = answer s a number ≡ AckAnswer.Refused (refusal n)
+Acknowledges s a (frees number d) = answer s a number ≡ Ok d
+Acknowledges s a (refuses number n) = answer s a number ≡ Err (refusal n)
 Acknowledges s a (only number n) =
-    (answer s a number ≡ AckAnswer.Frees 0) × ((r : ℕ) → r ≤ 32767 → (r ≡ number → ⊥) → answer s a r ≡ AckAnswer.Refused (refusal n))
+    (answer s a number ≡ Ok 0) × ((r : ℕ) → r ≤ 32767 → (r ≡ number → ⊥) → answer s a r ≡ Err (refusal n))
 
 abbrev pub Holds : Case → Type 0
 Holds (read f r) = Reads f r

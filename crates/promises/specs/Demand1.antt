@@ -3,16 +3,17 @@
 use Rattle.std.specs.Prelude.{ℕ, ◌<◌, ◌≤◌, ◌≡◌, Bool, true, false, ◌&&◌, ◌||◌, List, [], length, eqb}
 use Rattle.laws.specs.Choice.{pick}
 use Rattle.asdu.specs.Header.{between}
-use Rattle.asdu.specs.Records.{no_asdu, answer_number}
+use Rattle.elements.specs.Refusals.{answer_number}
+use Rattle.asdu.specs.Records.{no_asdu}
 use Rattle.asdu.specs.Reading.{read_asdu}
-use Rattle.asdu.specs.Writing.{write_answer, written, write_number}
+use Rattle.asdu.specs.Writing.{write_answer, written}
 use Rattle.asdu.specs.declared.Asdu.{Asdu}
-use Rattle.apdu.specs.Reading.{frame_answer, frame_number, asdu_part}
+use Rattle.apdu.specs.Reading.{frame_answer, asdu_part}
 use Rattle.apdu.specs.Writing.{answer_for, output_for}
-use Rattle.assembly.specs.Picking.{pick_answer, pick_number, pick_part}
-use Rattle.assembly.specs.Topping.{top_up_answer, top_up_number, topped}
-use Rattle.assembly.specs.Stepping.{step_answer, step_number, step_carry}
-use Rattle.link_state.specs.Opening.{blank_link, opened, open_number}
+use Rattle.assembly.specs.Picking.{pick_answer, pick_part}
+use Rattle.assembly.specs.Topping.{top_up_answer, topped}
+use Rattle.assembly.specs.Stepping.{step_answer, step_carry}
+use Rattle.link_state.specs.Opening.{blank_link, opened}
 use Rattle.link_state.specs.declared.Settings.{Settings}
 use Rattle.link_state.specs.declared.Link.{Link}
 use Rattle.link.specs.Making.{window_full, shut}
@@ -27,15 +28,15 @@ use Rattle.promises.specs.Demand3.{Call, answered, output_after, pool_after, ent
 pub record RefusedLeaves : Type 0 where
   -- "a new record or link beside it is all 0, clear and unset"
   pub reading : (s : List ℕ) → 0 < answer_number (read_asdu s).answer → (read_asdu s).asdu ≡ no_asdu
-  pub opening : (s : Settings) (now : ℕ) → 0 < open_number (opened s now).answer → (opened s now).link ≡ blank_link
+  pub opening : (s : Settings) (now : ℕ) → 0 < answer_number (opened s now).answer → (opened s now).link ≡ blank_link
   -- the ASDU's part "is empty for .. a refused frame"; "more and a refusal have the empty part"
-  pub frame_part : (f : List ℕ) → 0 < frame_number (frame_answer f) → asdu_part f ≡ []
-  pub picked_part : (carry : List ℕ) (held : ℕ) (chunk : List ℕ) → 0 < pick_number (pick_answer carry held chunk) → pick_part carry held chunk ≡ []
+  pub frame_part : (f : List ℕ) → 0 < answer_number (frame_answer f) → asdu_part f ≡ []
+  pub picked_part : (carry : List ℕ) (held : ℕ) (chunk : List ℕ) → 0 < answer_number (pick_answer carry held chunk) → pick_part carry held chunk ≡ []
   -- "changes no lent byte": the output of writing an ASDU, of writing a frame, the carry
-  pub asdu_output : (a : Asdu) (out : List ℕ) → 0 < write_number (write_answer a (length out)) → written a out ≡ out
-  pub frame_output : (refused : ℕ) (octets out : List ℕ) → 0 < write_number (answer_for refused octets) → output_for refused octets out ≡ out
-  pub topped_carry : (carry : List ℕ) (held : ℕ) (chunk : List ℕ) → 0 < top_up_number (top_up_answer carry held chunk) → topped carry held chunk ≡ carry
-  pub stepped_carry : (carry : List ℕ) (held : ℕ) (chunk : List ℕ) → 0 < step_number (step_answer carry held chunk) → step_carry carry held chunk ≡ carry
+  pub asdu_output : (a : Asdu) (out : List ℕ) → 0 < answer_number (write_answer a (length out)) → written a out ≡ out
+  pub frame_output : (refused : ℕ) (octets out : List ℕ) → 0 < answer_number (answer_for refused octets) → output_for refused octets out ≡ out
+  pub topped_carry : (carry : List ℕ) (held : ℕ) (chunk : List ℕ) → 0 < answer_number (top_up_answer carry held chunk) → topped carry held chunk ≡ carry
+  pub stepped_carry : (carry : List ℕ) (held : ℕ) (chunk : List ℕ) → 0 < answer_number (step_answer carry held chunk) → step_carry carry held chunk ≡ carry
 
 -- ---- the link
 

@@ -6,7 +6,6 @@ use Rattle.std.proofs.lemmas.List.Edits.{sets}
 use Rattle.laws.specs.Choice.{pick}
 use Rattle.laws.specs.Window.{Confirms, freed}
 use Rattle.apdu.specs.Reading.{frame_answer, asdu_part}
-use Rattle.apdu.specs.declared.frame.FrameAnswer.{FrameAnswer}
 use Rattle.assembly.specs.Streams.{rest, stream}
 use Rattle.link_state.specs.Limits.{call_refusal}
 use Rattle.link_state.specs.Opening.{opened, open_refusal}
@@ -14,9 +13,14 @@ use Rattle.link_state.specs.declared.Settings.{Settings}
 use Rattle.link_state.specs.declared.Link.{Link}
 use Rattle.link.specs.Frames.{wire}
 use Rattle.link.specs.Events.{Outcome, Event, frame, send, stop, test, tick, called}
-use Rattle.link.specs.Answering.{called_of, link_number, link_written}
+use Rattle.link.specs.Answering.{called_of, link_written}
 use Rattle.link.specs.declared.answers.Called.{Called}
 use Rattle.link_meaning.specs.Meaning.{OctetsIn, waiting_of}
+use Rattle.std.specs.Prelude.{Result, Ok, Err}
+use Rattle.elements.specs.Refusals.{answer_number}
+use Rattle.elements.specs.declared.refusals.Refusal.{Refusal}
+use Rattle.apdu.specs.declared.frame.Frame.TheVariants.{I, S, U}
+use Rattle.apdu.specs.declared.frame.Frame.{Frame}
 
 -- ---- calls and what is seen of them
 
@@ -61,7 +65,7 @@ abbrev pub entry_of : Call → Link → List ℕ → Entry
 entry_of c l pool = record {
   event = c.event;
   now = c.now;
-  number = link_number (answered c l pool).answer;
+  number = answer_number (answered c l pool).answer;
   handed = take (link_written (answered c l pool).answer) (output_after c l pool);
 }
 
@@ -82,11 +86,11 @@ abbrev pub cut : List ℕ → List (List ℕ)
 cut handed = (stream handed).frames
 
 -- those that read as I frames
-abbrev pub keep_i : FrameAnswer → List ℕ → List (List ℕ)
-keep_i (FrameAnswer.I s r) f = f ∷ []
-keep_i (FrameAnswer.S r) f = []
-keep_i (FrameAnswer.U u) f = []
-keep_i (FrameAnswer.Refused r) f = []
+abbrev pub keep_i : Result Frame Refusal → List ℕ → List (List ℕ)
+keep_i (Ok (I s r)) f = f ∷ []
+keep_i (Ok (S r)) f = []
+keep_i (Ok (U u)) f = []
+keep_i (Err r) f = []
 
 -- of all that were cut
 abbrev pub i_frames_in : List (List ℕ) → List (List ℕ)
@@ -129,11 +133,11 @@ pub data Brought : Type 0 where
   an_asdu : List ℕ → Brought
   other : Brought
 
-abbrev pub framed : FrameAnswer → Brought
-framed (FrameAnswer.I s r) = an_i s.0 r.0
-framed (FrameAnswer.S r) = an_s r.0
-framed (FrameAnswer.U u) = other
-framed (FrameAnswer.Refused r) = other
+abbrev pub framed : Result Frame Refusal → Brought
+framed (Ok (I s r)) = an_i s.0 r.0
+framed (Ok (S r)) = an_s r.0
+framed (Ok (U u)) = other
+framed (Err r) = other
 
 abbrev pub brings : Event → Brought
 brings (frame f more) = framed (frame_answer f)
@@ -181,11 +185,11 @@ taken (e ∷ past) = taken past ++ pick (accepted e) (taken_by (brings e.event))
 -- ---- what was not confirmed yet
 
 -- a frame tells R where it reads as an I or an S frame
-abbrev pub tells_by : FrameAnswer → Bool
-tells_by (FrameAnswer.I s r) = true
-tells_by (FrameAnswer.S r) = true
-tells_by (FrameAnswer.U u) = false
-tells_by (FrameAnswer.Refused r) = false
+abbrev pub tells_by : Result Frame Refusal → Bool
+tells_by (Ok (I s r)) = true
+tells_by (Ok (S r)) = true
+tells_by (Ok (U u)) = false
+tells_by (Err r) = false
 
 abbrev pub told_in : List (List ℕ) → Bool
 told_in [] = false
@@ -204,17 +208,17 @@ Some past r = (a : ℕ) × Confirms 32768 (a_of past) (s_of past) r a
 
 -- the numbers of a frame that is handed out, s being the total of I frames before it and r the total accepted; what is
 -- handed out is a frame
-abbrev pub Carries : FrameAnswer → ℕ → ℕ → Type 0
-Carries (FrameAnswer.I x y) s r = (x.0 ≡ s % 32768) × (y.0 ≡ r % 32768)
-Carries (FrameAnswer.S y) s r = y.0 ≡ r % 32768
-Carries (FrameAnswer.U u) s r = Unit {0}
-Carries (FrameAnswer.Refused q) s r = ⊥
+abbrev pub Carries : Result Frame Refusal → ℕ → ℕ → Type 0
+Carries (Ok (I x y)) s r = (x.0 ≡ s % 32768) × (y.0 ≡ r % 32768)
+Carries (Ok (S y)) s r = y.0 ≡ r % 32768
+Carries (Ok (U u)) s r = Unit {0}
+Carries (Err q) s r = ⊥
 
-abbrev pub count_i : FrameAnswer → ℕ → ℕ
-count_i (FrameAnswer.I x y) s = s + 1
-count_i (FrameAnswer.S y) s = s
-count_i (FrameAnswer.U u) s = s
-count_i (FrameAnswer.Refused q) s = s
+abbrev pub count_i : Result Frame Refusal → ℕ → ℕ
+count_i (Ok (I x y)) s = s + 1
+count_i (Ok (S y)) s = s
+count_i (Ok (U u)) s = s
+count_i (Err q) s = s
 
 -- each of the frames handed out by one call
 abbrev pub Numbered : ℕ → ℕ → List (List ℕ) → Type 0

@@ -1,15 +1,16 @@
 -- Assembling. The sentences are document 01's; docs/PROMISES.md has them side by side with these statements.
-use Rattle.std.specs.Prelude.{ℕ, zero, suc, ◌+◌, ◌-◌, ◌<◌, ◌≤◌, ◌≡◌, ◌↔◌, List, [], ◌∷◌, ◌++◌, length, get_or, take, drop}
+use Rattle.std.specs.Prelude.{ℕ, zero, suc, ◌+◌, ◌-◌, ◌<◌, ◌≤◌, ◌≡◌, ◌↔◌, List, [], ◌∷◌, ◌++◌, length, get_or, take, drop, Result, Ok, Err}
 use Rattle.std.proofs.lemmas.List.Edits.{sets}
-use Rattle.assembly.specs.Start.{start_answer, start_number, start_length}
-use Rattle.assembly.specs.Picking.{pick_answer, pick_number, pick_length, pick_part}
-use Rattle.assembly.specs.Topping.{top_up_answer, top_up_number, moved_in, topped}
-use Rattle.assembly.specs.Stepping.{step_answer, step_number, step_moved, step_length, step_carry}
+use Rattle.elements.specs.Refusals.{number, answer_number}
+use Rattle.elements.specs.declared.refusals.Refusal.{Refusal}
+use Rattle.assembly.specs.Start.{start_answer, start_length}
+use Rattle.assembly.specs.Picking.{pick_answer, pick_length, pick_part}
+use Rattle.assembly.specs.Topping.{top_up_answer, moved_in, topped}
+use Rattle.assembly.specs.Stepping.{step_answer, step_moved, step_length, step_carry}
 use Rattle.assembly.specs.Streams.{End, rest, refused, StreamOutcome, no_frames, handed, stream, joined}
-use Rattle.assembly.specs.declared.picking.PickAnswer.{PickAnswer}
-use Rattle.assembly.specs.declared.topping.TopUpAnswer.{TopUpAnswer}
-use Rattle.assembly.specs.declared.stepping.StepAnswer.{StepAnswer}
-use Rattle.assembly.specs.declared.stepping.StepAnswer.TheVariants.{Chunk, Carry, More, Refused}
+use Rattle.assembly.specs.declared.Pick.{Pick}
+use Rattle.assembly.specs.declared.Step.{Step}
+use Rattle.assembly.specs.declared.Step.TheVariants.{Chunk, Carry, More}
 
 -- ---- what may stand at the start of some bytes, by the bytes alone
 
@@ -37,7 +38,7 @@ pub data Refuses (s : List ℕ) : ℕ → Type 0 where
 
 -- the answer tells which it is, by its number and by the frame's length
 abbrev pub Tells : List ℕ → ℕ → ℕ → Type 0
-Tells s number n = (start_number (start_answer s) ≡ number) × (start_length (start_answer s) ≡ n)
+Tells s number n = (answer_number (start_answer s) ≡ number) × (start_length (start_answer s) ≡ n)
 
 pub record Starts (s : List ℕ) : Type 0 where
   pub whole : (f r : List ℕ) → IsFrame f → s ≡ f ++ r → Tells s 0 (length f)
@@ -107,11 +108,11 @@ enough (c ∷ cs) = suc (length c) + enough cs
 -- What a caller does with the answer to a step on the chunk c: it takes the frame that is picked from the chunk and goes on after
 -- it; or it takes the one that is picked from the carry, empties the carry and goes on with the rest of the chunk; or it goes on
 -- with the next chunk; or it stops. The buffer of the carry is as the step left it.
-abbrev pub run_by : StepAnswer → Turn
-run_by (Chunk n) at carry held c cs next = handed (pick_part carry held c) (next (at + n) carry 0 (drop n c ∷ cs))
-run_by (Carry m n) at carry held c cs next = handed (pick_part carry (held + m) c) (next (at + n) carry 0 (drop m c ∷ cs))
-run_by (More m) at carry held c cs next = next at carry (held + m) cs
-run_by (Refused r) at carry held c cs next = no_frames (refused r.0 at)
+abbrev pub run_by : Result Step Refusal → Turn
+run_by (Ok (Chunk n)) at carry held c cs next = handed (pick_part carry held c) (next (at + n) carry 0 (drop n c ∷ cs))
+run_by (Ok (Carry m n)) at carry held c cs next = handed (pick_part carry (held + m) c) (next (at + n) carry 0 (drop m c ∷ cs))
+run_by (Ok (More m)) at carry held c cs next = next at carry (held + m) cs
+run_by (Err r) at carry held c cs next = no_frames (refused (number r) at)
 
 abbrev pub step_turn : Turn
 step_turn at carry held c cs next = run_by (step_answer carry held c) at (step_carry carry held c) held c cs next
@@ -127,17 +128,17 @@ CutIndependent = (carry : List ℕ) (chunks : List (List ℕ)) → 255 ≤ lengt
 -- ---- topping up first
 
 -- A caller who wants another order tops up at once, and picks then from the carry and the rest of the chunk, here c.
-abbrev pub run_picked : PickAnswer → Turn
-run_picked (PickAnswer.Carry n) at carry held c cs next = handed (pick_part carry held c) (next (at + n) carry 0 (c ∷ cs))
-run_picked (PickAnswer.Chunk n) at carry held c cs next = handed (pick_part carry held c) (next (at + n) carry held (drop n c ∷ cs))
-run_picked PickAnswer.More at carry held c cs next = next at carry held cs
-run_picked (PickAnswer.Refused r) at carry held c cs next = no_frames (refused r.0 at)
+abbrev pub run_picked : Result Pick Refusal → Turn
+run_picked (Ok (Pick.Carry n)) at carry held c cs next = handed (pick_part carry held c) (next (at + n) carry 0 (c ∷ cs))
+run_picked (Ok (Pick.Chunk n)) at carry held c cs next = handed (pick_part carry held c) (next (at + n) carry held (drop n c ∷ cs))
+run_picked (Ok Pick.More) at carry held c cs next = next at carry held cs
+run_picked (Err r) at carry held c cs next = no_frames (refused (number r) at)
 
 -- the buffer of the carry is as topping up left it
-abbrev pub run_topped : TopUpAnswer → Turn
-run_topped (TopUpAnswer.Moved m) at carry held c cs next =
+abbrev pub run_topped : Result ℕ Refusal → Turn
+run_topped (Ok m) at carry held c cs next =
     run_picked (pick_answer carry (held + m) (drop m c)) at carry (held + m) (drop m c) cs next
-run_topped (TopUpAnswer.Refused r) at carry held c cs next = no_frames (refused r.0 at)
+run_topped (Err r) at carry held c cs next = no_frames (refused (number r) at)
 
 abbrev pub top_turn : Turn
 top_turn at carry held c cs next = run_topped (top_up_answer carry held c) at (topped carry held c) held c cs next
@@ -153,7 +154,7 @@ ToppingFirst = (carry : List ℕ) (chunks : List (List ℕ)) → 255 ≤ length 
 
 -- a frame that the chunk holds whole is handed out as a part of the chunk, and the carry is left alone
 pub record Uncopied (carry chunk : List ℕ) (n : ℕ) : Type 0 where
-  pub answer : step_answer carry 0 chunk ≡ Chunk n
+  pub answer : step_answer carry 0 chunk ≡ Ok (Chunk n)
   pub kept : step_carry carry 0 chunk ≡ carry
 
 abbrev pub InPlace : Type 0
@@ -163,7 +164,7 @@ InPlace = (carry f r : List ℕ) → 255 ≤ length carry → IsFrame f → Unco
 
 -- a step tells of the frame f and how long it is, and picking then hands it back
 pub record HandedBack (carry : List ℕ) (held : ℕ) (chunk f : List ℕ) : Type 0 where
-  pub number : step_number (step_answer carry held chunk) ≡ 0
+  pub number : answer_number (step_answer carry held chunk) ≡ 0
   pub long : step_length (step_answer carry held chunk) ≡ length f
   pub part : pick_part (step_carry carry held chunk) (held + step_moved (step_answer carry held chunk)) chunk ≡ f
 
@@ -173,11 +174,11 @@ HandsBack = (carry : List ℕ) (held : ℕ) (chunk f r : List ℕ) → 255 ≤ l
     → Unfinished (take held carry) → IsFrame f → take held carry ++ chunk ≡ f ++ r → HandedBack carry held chunk f
 
 -- The part that an answer goes with is a whole frame; "more and a refusal have the empty part".
-abbrev pub PickedBy : PickAnswer → List ℕ → Type 0
-PickedBy (PickAnswer.Carry n) part = IsFrame part
-PickedBy (PickAnswer.Chunk n) part = IsFrame part
-PickedBy PickAnswer.More part = part ≡ []
-PickedBy (PickAnswer.Refused r) part = part ≡ []
+abbrev pub PickedBy : Result Pick Refusal → List ℕ → Type 0
+PickedBy (Ok (Pick.Carry n)) part = IsFrame part
+PickedBy (Ok (Pick.Chunk n)) part = IsFrame part
+PickedBy (Ok Pick.More) part = part ≡ []
+PickedBy (Err r) part = part ≡ []
 
 -- whatever the carry holds; and the part is as long as the answer tells
 pub record Picked (carry : List ℕ) (held : ℕ) (chunk : List ℕ) : Type 0 where
@@ -194,16 +195,16 @@ picked_from carry (suc n) chunk = take (suc n) carry
 -- it hands out the frame that stands there, and refuses what is refused there
 pub record Picks (carry : List ℕ) (held : ℕ) (chunk : List ℕ) : Type 0 where
   pub whole : (f r : List ℕ) → IsFrame f → picked_from carry held chunk ≡ f ++ r → pick_part carry held chunk ≡ f
-  pub more : Unfinished (picked_from carry held chunk) → pick_answer carry held chunk ≡ PickAnswer.More
-  pub refuses : (number : ℕ) → Refuses (picked_from carry held chunk) number → pick_number (pick_answer carry held chunk) ≡ number
+  pub more : Unfinished (picked_from carry held chunk) → pick_answer carry held chunk ≡ Ok Pick.More
+  pub refuses : (number : ℕ) → Refuses (picked_from carry held chunk) number → answer_number (pick_answer carry held chunk) ≡ number
 
 -- "On hand is the carry followed by the chunk for topping up". It moves what is missing of the frame that stands there; or all of
 -- the chunk, where more is needed; or it refuses what is refused there, and leaves the carry as it was.
 pub record TopsUp (carry : List ℕ) (held : ℕ) (chunk : List ℕ) : Type 0 where
   pub whole : (f r : List ℕ) → IsFrame f → take held carry ++ chunk ≡ f ++ r
-      → top_up_answer carry held chunk ≡ TopUpAnswer.Moved (length f - held)
-  pub more : Unfinished (take held carry ++ chunk) → top_up_answer carry held chunk ≡ TopUpAnswer.Moved (length chunk)
-  pub refuses : (number : ℕ) → Refuses (take held carry ++ chunk) number → top_up_number (top_up_answer carry held chunk) ≡ number
+      → top_up_answer carry held chunk ≡ Ok (length f - held)
+  pub more : Unfinished (take held carry ++ chunk) → top_up_answer carry held chunk ≡ Ok (length chunk)
+  pub refuses : (number : ℕ) → Refuses (take held carry ++ chunk) number → answer_number (top_up_answer carry held chunk) ≡ number
   pub stored : topped carry held chunk ≡ sets carry held (take (moved_in (top_up_answer carry held chunk)) chunk)
 
 -- ---- all of it

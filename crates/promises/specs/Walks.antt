@@ -8,7 +8,13 @@ use Rattle.asdu_walk.specs.Places.{start_of, found_at, after_of}
 use Rattle.asdu_walk.specs.Walks.{walk_of, next_of, walk_after}
 use Rattle.asdu_walk.specs.declared.Place.{Place}
 use Rattle.asdu_walk.specs.declared.Walk.{Walk}
-use Rattle.asdu_walk.specs.declared.Found.{Found}
+use Rattle.std.specs.Prelude.{Option, Some, None, Result, Ok, Err}
+use Rattle.elements.specs.declared.refusals.Refusal.{Refusal}
+use Rattle.objects.specs.declared.Object.{Object}
+
+-- what a step finds: an object, or none at the end, or what reading refuses
+abbrev pub Found : Type 0
+Found = Result (Option Object) Refusal
 
 -- what n steps find: at each what stands there (`next`, `object_from`), then one further (`after`, `Place::after`)
 abbrev pub steps : Walk → ℕ → List Found
@@ -21,7 +27,7 @@ place_steps s p (suc n) = found_at s p ∷ place_steps s (after_of p) n
 
 -- of an ASDU that reads: the objects of its record, in order, then the end as long as one goes on
 abbrev pub in_order : List ℕ → ℕ → List Found
-in_order s n = map Found.Object (own_objects (read_asdu s).asdu) ++ replicate n Found.End
+in_order s n = map (λ (o : Object). Ok (Some o)) (own_objects (read_asdu s).asdu) ++ replicate n (Ok None)
 
 -- so many steps reach the record's last object
 abbrev pub count_of : List ℕ → ℕ
@@ -29,7 +35,7 @@ count_of s = (read_asdu s).asdu.count
 
 -- of one that does not read: at every step the reading's refusal
 abbrev pub refusing : List ℕ → ℕ → List Found
-refusing s n = replicate n (Found.Refused (refusal (read_refusal s)))
+refusing s n = replicate n (Err (refusal (read_refusal s)))
 
 -- a walk that skips, repeats or changes an object, ends early, goes on after the end, or takes what reading refuses, fails
 pub record Walks : Type 0 where

@@ -1,136 +1,149 @@
 // Lines of the sample: a letter for the kind, octets given, octets told. Of an element or a number there are eight of
 // each. Of an ASDU (`a`, `A`), a frame (`f`, `F`) or a stream (`t`) the line says how many after its letter, in four digits
 // each.
-ghost use Rattle.std.specs.Prelude.{◌≤◌};
+use crate::{asdus, frames, octets, streams};
+use std::fmt;
+use std::fmt::Write;
+use test_text::octets::Digits;
 
-use crate::{asdus, digits, frames, octets, streams};
-use bridge_records::fields;
-use test_text::text;
+const MAX_GIVEN: u16 = 256;
 
-const MAX_GIVEN: usize = 256;
-
-const MAX_TOLD: usize = 2048;
+const MAX_TOLD: u16 = 2048;
 
 pub const MAX_LINE: usize = 4622;
 
-// Where the octets given begin, and how many are given and told.
+// A byte that is no digit has a value too: the line is then not written as it was read.
+fn digit_value(glyph: u8) -> u8 {
+    match glyph {
+        b'0'..=b'9' => glyph - b'0',
+        b'a'..=u8::MAX => (glyph - b'a' + 10) % 16,
+        _ => 0,
+    }
+}
+
+// The number of the four digits at a place.
+fn number_at(line: &[u8], at: usize) -> u16 {
+    let digits = line.iter().skip(at).take(4);
+    digits.fold(
+        0,
+        |n: u16, glyph| n
+            .wrapping_mul(16)
+            .wrapping_add(u16::from(digit_value(*glyph))),
+    )
+}
+
+// How many octets a line gives and tells, and whether it says so.
 #[derive(Clone, Copy)]
 struct Shape {
-    at: usize,
-    given: usize,
-    told: usize,
+    numbered: bool,
+    given: u16,
+    told: u16,
 }
 
-const SHAPE_OF_OCTETS: Shape = Shape {
-    at: 2,
-    given: 8,
-    told: 8,
-};
+impl Shape {
+    const OF_OCTETS: Shape = Shape {
+        numbered: false,
+        given: 8,
+        told: 8,
+    };
 
-fn number_at(line: &[u8], at: usize) -> usize {
-    let mut octets = [0u8; 2];
-    digits::take_octets(laws::part_from(line, at), &mut octets, 2);
-    fields::take::<u16>(&octets) as usize
-}
+    // A line that says too much has the shape of the others, and so is not written as it was read.
+    fn of(line: &[u8]) -> Shape {
+        let Some(b'a' | b'A' | b'f' | b'F' | b't') = line.first() else {
+            return Shape::OF_OCTETS;
+        };
+        let given = number_at(line, 2);
+        let told = number_at(line, 7);
+        if given > MAX_GIVEN || told > MAX_TOLD {
+            return Shape::OF_OCTETS;
+        }
+        Shape {
+            numbered: true,
+            given,
+            told,
+        }
+    }
 
-fn shape_of_asdu(line: &[u8]) -> Shape
-    ensures { (result.at ≤ 12) × (result.given ≤ 256) × (result.told ≤ 2048) }
-{
-    let given = number_at(line, 2);
-    if MAX_GIVEN < given {
-        return SHAPE_OF_OCTETS;
-    }
-    let told = number_at(line, 7);
-    if MAX_TOLD < told {
-        return SHAPE_OF_OCTETS;
-    }
-    Shape {
-        at: 12,
-        given,
-        told,
-    }
-}
-
-// A line that says too much has the shape of the others, and so is not written as it was read.
-fn shape_of(line: &[u8]) -> Shape
-    ensures { (result.at ≤ 12) × (result.given ≤ 256) × (result.told ≤ 2048) }
-{
-    let kind = laws::octet_at(line, 0);
-    match kind {
-        b'a' | b'A' | b'f' | b'F' | b't' => shape_of_asdu(line),
-        _ => SHAPE_OF_OCTETS,
+    // Where the octets given begin.
+    fn start(self) -> u8 {
+        if self.numbered { 12 } else { 2 }
     }
 }
 
 // The length of a line, by its first 12 bytes.
-pub fn length(line: &[u8]) -> usize
-    ensures { result ≤ 4622 }
-{
-    let shape = shape_of(line);
-    shape.at + shape.given * 2 + shape.told * 2 + 2
+pub fn length(line: &[u8]) -> usize {
+    let shape = Shape::of(line);
+    let octets = usize::from(shape.given) + usize::from(shape.told);
+    usize::from(shape.start()) + octets * 2 + 2
 }
 
-fn put_number(line: &mut [u8], at: usize, n: usize)
-    requires { (at ≤ 12) × (n ≤ 2048) }
-{
-    let mut octets = [0u8; 2];
-    fields::put(&mut octets, n as u16);
-    digits::put_octets(line, at, &octets, 2);
-}
+// What is left of a line behind the text that was held to it. Other text is not taken.
+#[derive(Clone, Copy)]
+struct Left<'a>(&'a [u8]);
 
-fn put_head(line: &mut [u8], kind: u8, shape: Shape)
-    requires { (shape.given ≤ 256) × (shape.told ≤ 2048) }
-{
-    laws::put_octet(line, 0, kind);
-    if shape.at == 12 {
-        put_number(line, 2, shape.given);
-        put_number(line, 7, shape.told);
+impl<'a> fmt::Write for Left<'a> {
+    fn write_str(&mut self, text: &str) -> fmt::Result {
+        self.0 = self.0.strip_prefix(text.as_bytes()).ok_or(fmt::Error)?;
+        Ok(())
     }
 }
 
-fn put_line(line: &mut [u8], kind: u8, shape: Shape, given: &[u8], told: &[u8])
-    requires { (shape.at ≤ 12) × (shape.given ≤ 256) × (shape.told ≤ 2048) }
-{
-    let after = shape.at + shape.given * 2;
-    put_head(line, kind, shape);
-    digits::put_octets(line, shape.at, given, shape.given);
-    digits::put_octets(line, after + 1, told, shape.told);
-    laws::put_octet(line, after + 1 + shape.told * 2, b'\n');
+// What a line says.
+#[derive(Clone, Copy)]
+struct Case<'a> {
+    kind: u8,
+    numbered: bool,
+    given: &'a [u8],
+    told: &'a [u8],
 }
 
-fn is_written_as(line: &[u8], again: &[u8; MAX_LINE]) -> bool {
-    check::same(line, text::part_to(again, length(line)))
-}
-
-fn answers(kind: u8, given: &[u8], told: &[u8]) -> bool {
-    match kind {
-        b'a' => asdus::reads(given, told),
-        b'A' => asdus::writes(given, told),
-        b'f' => frames::reads(given, told),
-        b'F' => frames::writes(given, told),
-        b't' => streams::steps(given, told),
-        _ => octets::agrees(kind, given, told),
+impl<'a> fmt::Display for Case<'a> {
+    fn fmt<W: fmt::Write>(&self, f: &mut fmt::Formatter<W>) -> fmt::Result {
+        write!(f, "{} ", char::from(self.kind))?;
+        if self.numbered {
+            write!(f, "{:04x} {:04x} ", self.given.len(), self.told.len())?;
+        }
+        writeln!(f, "{} {}", Digits(self.given), Digits(self.told))
     }
 }
 
-fn answers_by(kind: u8, shape: Shape, given: &[u8; MAX_GIVEN], told: &[u8; MAX_TOLD]) -> bool {
-    answers(
-        kind,
-        text::part_to(given, shape.given),
-        text::part_to(told, shape.told),
-    )
+impl<'a> Case<'a> {
+    fn read(line: &[u8], given: &'a mut [u8], told: &'a mut [u8]) -> Option<Case<'a>> {
+        let shape = Shape::of(line);
+        let (_, rest) = line.split_at_checked(usize::from(shape.start()))?;
+        let (given_digits, rest) = rest.split_at_checked(usize::from(shape.given) * 2)?;
+        let (_, rest) = rest.split_at_checked(1)?;
+        let (told_digits, _) = rest.split_at_checked(usize::from(shape.told) * 2)?;
+        Some(Case {
+            kind: *line.first()?,
+            numbered: shape.numbered,
+            given: test_text::octets::of_digits(given_digits, given)?,
+            told: test_text::octets::of_digits(told_digits, told)?,
+        })
+    }
+
+    // A line that is broken is not what its octets are written as.
+    fn is_written_as(self, line: &[u8]) -> bool {
+        let mut left = Left(line);
+        write!(left, "{self}").is_ok() && left.0.is_empty()
+    }
+
+    fn is_answered(self) -> bool {
+        match self.kind {
+            b'a' => asdus::reads(self.given, self.told),
+            b'A' => asdus::writes(self.given, self.told),
+            b'f' => frames::reads(self.given, self.told),
+            b'F' => frames::writes(self.given, self.told),
+            b't' => streams::steps(self.given, self.told),
+            _ => octets::agrees(self.kind, self.given, self.told),
+        }
+    }
 }
 
-// Whether the library answers what is told. A line that is broken is not what its octets are written as.
+// Whether the library answers what is told.
 pub fn agrees(line: &[u8]) -> bool {
-    let shape = shape_of(line);
-    let kind = laws::octet_at(line, 0);
-    let told_at = shape.at + shape.given * 2 + 1;
-    let mut given = [0u8; MAX_GIVEN];
-    digits::take_octets(laws::part_from(line, shape.at), &mut given, shape.given);
-    let mut told = [0u8; MAX_TOLD];
-    digits::take_octets(laws::part_from(line, told_at), &mut told, shape.told);
-    let mut again = [b' '; MAX_LINE];
-    put_line(&mut again, kind, shape, &given, &told);
-    is_written_as(line, &again) && answers_by(kind, shape, &given, &told)
+    let mut given = [0; MAX_GIVEN as usize];
+    let mut told = [0; MAX_TOLD as usize];
+    Case::read(line, &mut given, &mut told).is_some_and(|case| case.is_written_as(line)
+        && case.is_answered())
 }

@@ -1,11 +1,10 @@
-// Text for the programs that test the library: bytes put into a lent buffer, octets as hexadecimal digits, decimal numbers,
-// and the answers that say nothing more.
+// Text for the programs that test the library: octets as hexadecimal digits, decimal numbers, and what a command ends in
+// where it has no answer.
 #![tactic(auto)]
 
-pub mod answers;
-pub mod hex;
 pub mod numbers;
-pub mod text;
+pub mod octets;
+pub mod wrong;
 
 // The longest line that `drive` takes, and the most octets that it can hold.
 pub const LINE_SIZE: usize = 4096;

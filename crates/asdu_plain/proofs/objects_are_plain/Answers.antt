@@ -7,14 +7,10 @@ use Rattle.laws.proofs.Lists.{octets_all, octets_drop}
 use Rattle.objects.specs.Kinds.{form_of}
 use Rattle.asdu.specs.Header.{step_of}
 use Rattle.asdu.specs.Plain.{plain_form}
-use Rattle.asdu.proofs.Starts.{product_small}
 use Rattle.asdu.proofs.Kept.{plain_covered}
 use Rattle.asdu_plain.proofs.Octets.{covered}
 use Rattle.asdu_plain.proofs.Objects.{plain_at, plain_objects_law, every_none, every_next, every_all, every_stop}
 use Rattle.asdu_plain.proofs.objects_are_plain.Goals as goal
-
-pub has_reserved-requires : goal.has_reserved-requires
-has_reserved-requires c = tt
 
 pub returns-then-not-has_reserved : goal.returns-then-not-has_reserved
 returns-then-not-has_reserved c =
@@ -26,27 +22,8 @@ returns-then-not-has_reserved c =
     let plain = every_all (plain_at k step s) a.h.count (λ i. plain_covered (form_of k) (drop (9 + i * step) s) none (octets_drop (9 + i * step) s (octets_all s (λ j. (c.shared_slice_known-1.given j).fits)))) in
     sym plain ∙ plain_objects_law a.h s step refl
 
-pub step_of-step-requires : goal.step_of-step-requires
-step_of-step-requires c = tt
-
 pub loop-i-init : goal.loop-i-init
-loop-i-init c = (omega arith, sym (every_none (plain_at c.args.h.kind c.step_of-step.result c.args.s.now)))
-
-pub overflow_mul-i : goal.overflow_mul-i
-overflow_mul-i c =
-    let few = c.requires in
-    omega (arith, product_small c.loop-i.i c.step_of-step.result (omega arith) c.step_of-step.ensures.upper_bound)
-
-pub overflow_add-i : goal.overflow_add-i
-overflow_add-i c =
-    let few = c.requires in
-    omega (arith, product_small c.loop-i.i c.step_of-step.result (omega arith) c.step_of-step.ensures.upper_bound)
-
-pub part_from-requires : goal.part_from-requires
-part_from-requires c = tt
-
-pub element_is_plain-requires : goal.element_is_plain-requires
-element_is_plain-requires c = tt
+loop-i-init c = sym (every_none (plain_at c.args.h.kind c.step_of-step.result c.args.s.now))
 
 pub returns-then-not-element_is_plain : goal.returns-then-not-element_is_plain
 returns-then-not-element_is_plain c =
@@ -60,7 +37,7 @@ pub loop-i-preserved : goal.loop-i-preserved
 loop-i-preserved c =
     let a = c.args in
     let here = sym (c.element_is_plain.ensures ∙ ap (plain_form (form_of a.h.kind)) c.part_from.ensures) ∙ c.if-not-element_is_plain.false in
-    (omega arith, every_next (plain_at a.h.kind c.step_of-step.result a.s.now) c.loop-i.i c.loop-i.invariant.1 here)
+    every_next (plain_at a.h.kind c.step_of-step.result a.s.now) c.loop-i.i c.loop-i.invariant here
 
 pub returns : goal.returns
 returns c =
@@ -68,4 +45,4 @@ returns c =
     let s = a.s.now in
     let step = c.step_of-step.result in
     let all : c.loop-i.i ≡ a.h.count = omega arith in
-    sym c.loop-i.invariant.1 ∙ (ap (every (plain_at a.h.kind step s)) all ∙ plain_objects_law a.h s step c.step_of-step.ensures.value)
+    sym c.loop-i.invariant ∙ (ap (every (plain_at a.h.kind step s)) all ∙ plain_objects_law a.h s step c.step_of-step.ensures.value)

@@ -1,4 +1,3 @@
-use Prim.Native.Nat.{◌-◌, ◌≤◌}
 use mathlib.Core.Path.{◌≡◌}
 use mathlib.Core.Bool.{true}
 use Rattle.laws.specs.Lists.{every}
@@ -6,7 +5,4 @@ use Rattle.asdu_plain.proofs.Objects.{plain_at}
 use Rattle.asdu_plain.proofs.objects_are_plain.Given as goal
 
 abbrev pub invariant-loop-i : goal.invariant-loop-i
-invariant-loop-i l = (l.i ≤ l.n) × (every (plain_at l.kind l.step l.s) l.i ≡ true)
-
-abbrev pub decreases-loop-i : goal.decreases-loop-i
-decreases-loop-i l = l.n - l.i
+invariant-loop-i l = every (plain_at l.kind l.step l.s) l.i ≡ true

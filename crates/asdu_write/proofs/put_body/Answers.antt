@@ -1,30 +1,19 @@
 use mathlib.Core.Path.{ap, ◌∙◌}
-use native.Mathlib.Omega.{arith}
-use Rattle.laws.proofs.Lists.{rest_sets}
 use Rattle.objects.specs.Kinds.{size_of}
-use Rattle.objects.specs.Elements.{element_octets}
-use Rattle.objects.specs.Objects.{object_octets}
-use Rattle.objects.proofs.Elements.{element_level}
-use Rattle.objects.proofs.Objects.{object_long}
-use Rattle.asdu_write.proofs.Places.{body_sequence, body_plain}
+use Rattle.asdu.specs.Writing.{body_octets}
+use Rattle.asdu_write.proofs.Places.{element_put, object_put}
 use Rattle.asdu_write.proofs.put_body.Goals as goal
 
 pub returns-then-sequence : goal.returns-then-sequence
+unfolding body_octets
 returns-then-sequence c =
     let a = c.args in
-    let size = c.size_of-size.ensures.value ∙ ap size_of c.kind_of_value.ensures in
-    rw (body_sequence a.sequence a.object c.if-sequence.true)
-    (record {
-      stored = rest_sets a.out.now a.at (element_octets a.object.value) c.put_element.ensures;
-      next = omega (arith, size, element_level.sized a.object.value);
-    })
+    let size = c.size_of-size.ensures.value ∙ ap size_of c.from.ensures in
+    rw c.if-sequence.true (element_put a.out.now a.at a.object.value size c.put_element.ensures)
 
 pub returns : goal.returns
+unfolding body_octets
 returns c =
     let a = c.args in
-    let size = c.size_of-size.ensures.value ∙ ap size_of c.kind_of_value.ensures in
-    rw (body_plain a.sequence a.object c.if-sequence.false)
-    (record {
-      stored = rest_sets a.out.now a.at (object_octets a.object) c.put_object.ensures;
-      next = omega (arith, size, object_long a.object);
-    })
+    let size = c.size_of-size.ensures.value ∙ ap size_of c.from.ensures in
+    rw c.if-sequence.false (object_put a.out.now a.at a.object size c.put_object.ensures)

@@ -1,30 +1,32 @@
-use mathlib.Core.Path.{refl}
+use mathlib.Core.Path.{refl, ap, ◌∙◌}
+use Rattle.std.specs.Prelude.{Ok}
+use Rattle.apdu.specs.declared.frame.Frame.{Frame}
 use Rattle.link.specs.Events.{on_answer}
 use Rattle.link_steps.proofs.Unchanged.{u_times, does_same}
 use Rattle.link_receive.proofs.Incoming.{frame_answered, frame_refused}
 use Rattle.link_receive.proofs.on_frame.Goals as goal
 
-pub returns-in-I : goal.returns-in-I
+pub returns-in-Ok-I : goal.returns-in-Ok-I
 unfolding on_answer
-returns-in-I c =
+returns-in-Ok-I c =
     let a = c.args in
-    frame_answered a.f.now a.s a.times.now a.pool.now a.out.now a.more a.moment c.read_frame-answer.ensures c.in-I.is c.on_i.ensures
+    frame_answered a.f.now a.s a.times.now a.pool.now a.out.now a.more a.moment c.read_frame.ensures (c.in-Ok-I.is ∙ ap (λ (x : Frame). Ok x) c.in-Ok-I.field-0-is) c.on_i.ensures
 
-pub returns-in-S : goal.returns-in-S
+pub returns-in-Ok-S : goal.returns-in-Ok-S
 unfolding on_answer
-returns-in-S c =
+returns-in-Ok-S c =
     let a = c.args in
-    frame_answered a.f.now a.s a.times.now a.pool.now a.out.now a.more a.moment c.read_frame-answer.ensures c.in-S.is c.on_s.ensures
+    frame_answered a.f.now a.s a.times.now a.pool.now a.out.now a.more a.moment c.read_frame.ensures (c.in-Ok-S.is ∙ ap (λ (x : Frame). Ok x) c.in-Ok-S.field-0-is) c.on_s.ensures
 
-pub returns-in-U : goal.returns-in-U
+pub returns-in-Ok-U : goal.returns-in-Ok-U
 unfolding on_answer
-returns-in-U c =
+returns-in-Ok-U c =
     let a = c.args in
-    let u = c.in-U.u in
+    let u = c.in-Ok-U.u in
     let done = does_same (c.on_u.ensures a.times.now a.pool.now) (u_times a.s a.times.now a.pool.now a.moment u a.more) in
-    frame_answered a.f.now a.s a.times.now a.pool.now a.out.now a.more a.moment c.read_frame-answer.ensures c.in-U.is done
+    frame_answered a.f.now a.s a.times.now a.pool.now a.out.now a.more a.moment c.read_frame.ensures (c.in-Ok-U.is ∙ ap (λ (x : Frame). Ok x) c.in-Ok-U.field-0-is) done
 
-pub returns-in-Refused : goal.returns-in-Refused
-returns-in-Refused c =
+pub returns-in-Err : goal.returns-in-Err
+returns-in-Err c =
     let a = c.args in
-    frame_refused a.f.now a.s a.times.now a.pool.now a.out.now a.more a.moment c.read_frame-answer.ensures c.in-Refused.is refl refl c.close.ensures
+    frame_refused a.f.now a.s a.times.now a.pool.now a.out.now a.more a.moment c.read_frame.ensures c.in-Err.is refl refl c.close.ensures

@@ -2,7 +2,7 @@ use mathlib.Core.Path.{◌≡◌, refl, ap, ◌∙◌}
 use native.Mathlib.Omega.{arith}
 use lib.ListN.{length}
 use borrow.Author.Tests.{ne_eqb}
-use Rattle.elements.specs.Refusals.{wrong_send_number}
+use Rattle.elements.specs.declared.refusals.Refusal.TheVariants.{WrongSendNumber}
 use Rattle.link_state.specs.declared.State.{State}
 use Rattle.link.specs.Events.{release, received, closing, on_i}
 use Rattle.link_steps.proofs.Made.{answers_closing}
@@ -13,17 +13,17 @@ pub returns-then-sent-s : goal.returns-then-sent-s
 unfolding on_i closing
 returns-then-sent-s c =
     let a = c.args in
-    rw (ne_eqb _ _ c.if-sent-s.true) (record { answers = answers_closing wrong_send_number a.s a.times.now a.pool.now a.out.now refl c.close.ensures; ring = refl })
+    rw (ne_eqb _ _ c.if-sent-s.true) (record { answers = answers_closing WrongSendNumber a.s a.times.now a.pool.now a.out.now c.close.ensures; ring = refl })
 
-pub returns-in_default : goal.returns-in_default
-returns-in_default c =
+pub returns-in-Err : goal.returns-in-Err
+returns-in-Err c =
     let a = c.args in
-    i_refused a.s a.number.0 a.times.now a.pool.now a.out.now a.more a.moment c.acknowledge-acked.ensures c.in_default.is c.refusal.ensures c.close-in_default.ensures a.sent.0 c.if-sent-s.false
+    i_refused a.s a.number.0 a.times.now a.pool.now a.out.now a.more a.moment c.acknowledge.ensures c.in-Err.is c.close-in-Err.ensures a.sent.0 c.if-sent-s.false
 
 pub release-made-requires : goal.release-made-requires
 unfolding received
 release-made-requires c =
-    let within = frees_held c.args.s.window.next.0 c.args.s.window.held c.args.number.0 c.acknowledge-acked.ensures c.in-Frees.is in
+    let within = frees_held c.args.s.window.next.0 c.args.s.window.held c.args.number.0 c.acknowledge.ensures c.in-Ok.is in
     rw c.receive_one-counted.ensures (open_received c.args.s _ _ _ _ c.requires.0, within)
 
 pub start_t2-started-requires : goal.start_t2-started-requires
@@ -31,8 +31,8 @@ unfolding received
 start_t2-started-requires c =
     let a = c.args in
     let counted = c.receive_one-counted in
-    let left : Released counted.result (release c.in-Frees.freed a.moment counted.result a.times.now a.pool.now) =
-    released counted.result a.times.now a.pool.now (length a.pool.now) (length a.out.now) a.moment c.in-Frees.freed (rw counted.ensures (open_received a.s _ _ _ _ c.requires.0)) in
+    let left : Released counted.result (release c.in-Ok.freed a.moment counted.result a.times.now a.pool.now) =
+    released counted.result a.times.now a.pool.now (length a.pool.now) (length a.out.now) a.moment c.in-Ok.freed (rw counted.ensures (open_received a.s _ _ _ _ c.requires.0)) in
     let settings : c.release-made.result.state.settings ≡ a.s.settings =
     ap (λ (x : State). x.settings) c.release-made.ensures.makes.state ∙ (left.settings ∙ ap (λ (x : State). x.settings) counted.ensures) in
     timed_by settings c.requires.0.calm.timed
@@ -42,8 +42,8 @@ unfolding received
 set_t3-stamped-requires c =
     let a = c.args in
     let counted = c.receive_one-counted in
-    let left : Released counted.result (release c.in-Frees.freed a.moment counted.result a.times.now a.pool.now) =
-    released counted.result a.times.now a.pool.now (length a.pool.now) (length a.out.now) a.moment c.in-Frees.freed (rw counted.ensures (open_received a.s _ _ _ _ c.requires.0)) in
+    let left : Released counted.result (release c.in-Ok.freed a.moment counted.result a.times.now a.pool.now) =
+    released counted.result a.times.now a.pool.now (length a.pool.now) (length a.out.now) a.moment c.in-Ok.freed (rw counted.ensures (open_received a.s _ _ _ _ c.requires.0)) in
     let settings : c.release-made.result.state.settings ≡ a.s.settings =
     ap (λ (x : State). x.settings) c.release-made.ensures.makes.state ∙ (left.settings ∙ ap (λ (x : State). x.settings) counted.ensures) in
     timed_by (ap (λ (x : State). x.settings) c.start_t2-started.ensures ∙ settings) c.requires.0.calm.timed
@@ -53,8 +53,8 @@ finish-ended-requires c =
     let out = c.release-made in
     let a = c.args in
     let counted = c.receive_one-counted in
-    let left : Released counted.result (release c.in-Frees.freed a.moment counted.result a.times.now a.pool.now) =
-    released counted.result a.times.now a.pool.now (length a.pool.now) (length a.out.now) a.moment c.in-Frees.freed (rw counted.ensures (open_received a.s _ _ _ _ c.requires.0)) in
+    let left : Released counted.result (release c.in-Ok.freed a.moment counted.result a.times.now a.pool.now) =
+    released counted.result a.times.now a.pool.now (length a.pool.now) (length a.out.now) a.moment c.in-Ok.freed (rw counted.ensures (open_received a.s _ _ _ _ c.requires.0)) in
     let end = out.ensures.makes.end in
     let short = left.short in
     let next : c.set_t3-stamped.result.receive.next.0 ≡ (received c.args.s).receive.next.0 =
@@ -68,4 +68,4 @@ finish-ended-requires c =
 pub returns : goal.returns
 returns c =
     let a = c.args in
-    i_frees a.s a.number.0 a.times.now a.pool.now a.out.now a.more a.moment c.acknowledge-acked.ensures a.sent.0 c.if-sent-s.false c.in-Frees.is c.receive_one-counted.ensures c.release-made.ensures c.start_t2-started.ensures c.set_t3-stamped.ensures c.finish-ended.ensures c.accept.ensures
+    i_frees a.s a.number.0 a.times.now a.pool.now a.out.now a.more a.moment c.acknowledge.ensures a.sent.0 c.if-sent-s.false c.in-Ok.is c.receive_one-counted.ensures c.release-made.ensures c.start_t2-started.ensures c.set_t3-stamped.ensures c.finish-ended.ensures c.accept.ensures

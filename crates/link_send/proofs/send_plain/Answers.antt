@@ -4,7 +4,7 @@ use mathlib.Core.Bool.{false}
 use lib.ListN.{length}
 use lib.Seq.{sets}
 use borrow.Author.Tests.{lt-ltb, le-ltb, le-leb, lt-leb}
-use Rattle.elements.specs.Refusals.{queue_full}
+use Rattle.elements.specs.declared.refusals.Refusal.TheVariants.{QueueFull}
 use Rattle.link.specs.Making.{with_queue, queued, free_slot, window_open}
 use Rattle.link.specs.Events.{start, accepting, send_plain}
 use Rattle.link_steps.proofs.Made.{makes_none, answers_ending}
@@ -20,7 +20,7 @@ pub returns-then-s-2 : goal.returns-then-s-2
 unfolding send_plain window_open
 returns-then-s-2 c =
     let a = c.args in
-    rw (le-ltb _ _ c.if-s.false, le-leb _ _ c.if-s-2.true) (refuses queue_full a.s a.times.now a.pool.now a.out.now refl c.refuse.ensures)
+    rw (le-ltb _ _ c.if-s.false, le-leb _ _ c.if-s-2.true) (refuses QueueFull a.s a.times.now a.pool.now a.out.now c.refuse.ensures)
 
 pub returns : goal.returns
 unfolding send_plain window_open accepting

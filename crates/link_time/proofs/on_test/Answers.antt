@@ -1,7 +1,8 @@
-use mathlib.Core.Path.{◌≡◌, refl, ap}
+use mathlib.Core.Path.{◌≡◌, ap}
 use mathlib.Core.Bool.{false}
 use native.Mathlib.Omega.{arith}
 use borrow.Author.Tests.{lt-ltb, le-ltb}
+use Rattle.elements.specs.declared.refusals.Refusal.TheVariants.{TooManyTests}
 use Rattle.link.specs.declared.answers.Made.{Made}
 use Rattle.link.specs.Making.{tested_of}
 use Rattle.link.specs.Events.{on_test, too_many}
@@ -10,7 +11,7 @@ use Rattle.link_time.proofs.on_test.Goals as goal
 
 pub returns-then-s-gt2 : goal.returns-then-s-gt2
 unfolding on_test too_many
-returns-then-s-gt2 c = λ ts ps. rw (lt-ltb _ _ c.if-s-gt2.true) (answers_closing _ _ ts ps _ refl c.close.ensures)
+returns-then-s-gt2 c = λ ts ps. rw (lt-ltb _ _ c.if-s-gt2.true) (answers_closing TooManyTests _ ts ps _ c.close.ensures)
 
 pub finish-ended-requires : goal.finish-ended-requires
 unfolding tested_of

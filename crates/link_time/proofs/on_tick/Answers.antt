@@ -1,22 +1,22 @@
-use mathlib.Core.Path.{◌≡◌, ap, ◌∙◌}
+use mathlib.Core.Path.{◌≡◌, sym, ap, ◌∙◌}
 use mathlib.Core.Bool.{false}
 use mathlib.Core.List.{[]}
 use native.Mathlib.Omega.{arith}
-use Rattle.elements.specs.declared.refusals.Refusal.{Refusal}
-use Rattle.elements.proofs.Refused.{none, some}
+use Rattle.elements.proofs.Refused.{made_some}
+use Rattle.link.proofs.Numbered.{refused_some, refused_number}
 use Rattle.link_state.specs.declared.State.{State}
 use Rattle.link.specs.Events.{start, tick_refusal, ticked, ticked_t2, on_tick}
 use Rattle.link_steps.proofs.Made.{makes_then, answers_ending, answers_closing}
-use Rattle.link_time.proofs.Ticks.{calm_t2, short_t2, short_t3, next_t3, ticked_t3_appends}
+use Rattle.link_time.proofs.Ticks.{calm_t2, short_t2, short_t3, next_t3, ticked_t3_appends, tick_row}
 use Rattle.link_time.proofs.on_tick.Goals as goal
 
-pub returns-then-not-is_none : goal.returns-then-not-is_none
+pub returns-in-Err : goal.returns-in-Err
 unfolding on_tick
-returns-then-not-is_none c =
-    let is = c.tick_refusal-refused.ensures in
-    let yes = some (tick_refusal c.args.s c.args.times.now c.args.moment) is c.is_none.ensures c.if-not-is_none.true in
-    let closed = rw (ap (λ (r : Refusal). r.0) is) at c.close.ensures in
-    λ ps. rw yes (answers_closing _ c.args.s c.args.times.now ps c.args.out.now yes closed)
+returns-in-Err c =
+    let a = c.args in
+    let refused = sym c.check_tick.ensures ∙ c.in-Err.is in
+    let number = refused_number (tick_refusal a.s a.times.now a.moment) tt (tick_row a.s a.times.now a.moment) refused in
+    λ ps. rw (refused_some (tick_refusal a.s a.times.now a.moment) tt refused).0 (rw number at (answers_closing c.in-Err.r a.s a.times.now ps a.out.now c.close.ensures))
 
 pub tick_t3-tested-requires : goal.tick_t3-tested-requires
 tick_t3-tested-requires c =
@@ -49,7 +49,7 @@ pub returns : goal.returns
 unfolding on_tick ticked
 returns c =
     let a = c.args in
-    let passed = none (tick_refusal a.s a.times.now a.moment) c.tick_refusal-refused.ensures c.is_none.ensures c.if-not-is_none.false in
+    let passed = made_some (tick_refusal a.s a.times.now a.moment) tt _ (sym c.check_tick.ensures ∙ c.in_default.is) in
     let g₂ = ticked_t2 a.moment (start a.s a.times.now) in
     let one = c.tick_t2-confirmed.ensures a.times.now in
     let two = makes_then (ticked_t3_appends a.s.timers.t3 a.moment) one one.state (c.tick_t3-tested.ensures g₂.times) in

@@ -1,15 +1,10 @@
 use Prim.Native.Nat.{ℕ}
-use mathlib.Core.Path.{refl, sym, ap, ◌∙◌}
+use mathlib.Core.Path.{sym, ap, ◌∙◌}
 use lib.Seq.{sets}
 use Rattle.apdu.specs.Control.{u_octet}
 use Rattle.apdu.specs.Writing.{start_octets, u_octets}
-use Rattle.apdu.proofs.Answers.{refuse, accept, no_room, some_room, start_long}
+use Rattle.apdu.proofs.Answers.{accept, some_room, start_long}
 use Rattle.apdu.proofs.writing.write_u.Goals as goal
-
-pub returns-then-out-lt-ASDU_START : goal.returns-then-out-lt-ASDU_START
-returns-then-out-lt-ASDU_START c =
-    let both = refuse _ _ _ (no_room _ _ c.if-out-lt-ASDU_START.true) refl refl in
-    record { value = both.0; out_after = both.1 }
 
 pub returns : goal.returns
 unfolding u_octets

@@ -4,6 +4,7 @@ use mathlib.Core.Bool.{true, ◌&&◌}
 use lib.Dec.{leb}
 use native.Mathlib.Omega.{arith}
 use Rattle.laws.proofs.Window.{ahead}
+use Rattle.elements.specs.Refusals.{refusal}
 use Rattle.link_state.specs.Acknowledging.{confirms, numbers_in_limits}
 use Rattle.link_state.proofs.Acks.{in_limits, outside, frees, past}
 use Rattle.link_state.proofs.acknowledging.acknowledge.Goals as goal
@@ -15,7 +16,7 @@ unfolding numbers_in_limits
 checked next held received e = e
 
 pub returns-then-not-next-held : goal.returns-then-not-next-held
-unfolding numbers_in_limits
+unfolding numbers_in_limits refusal
 returns-then-not-next-held c = outside _ _ _ c.if-not-next-held.true
 
 pub overflow_add-oldest : goal.overflow_add-oldest
@@ -37,5 +38,5 @@ loop-freed-preserved c =
     omega arith
 
 pub returns : goal.returns
-unfolding confirms
+unfolding confirms refusal
 returns c = past _ _ _ (checked c.args.next.0 c.args.held c.args.received.0 c.if-not-next-held.false) (omega arith)
