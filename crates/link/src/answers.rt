@@ -22,10 +22,3 @@ pub struct Step {
     pub state: State,
     pub answer: Result<Done, Refusal>,
 }
-
-// A state, and how many octets of the output are written.
-#[derive(Clone, Copy, Debug, PartialEq, Eq)]
-pub struct Made {
-    pub state: State,
-    pub end: usize,
-}
