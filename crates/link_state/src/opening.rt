@@ -7,7 +7,7 @@ use apdu::frame::{ReceiveNumber, SendNumber};
 use elements::refusals::Refusal;
 
 // What opening answers; beside a refusal the link is all 0, clear and unset.
-#[derive(Clone, Copy)]
+#[derive(Clone, Copy, Debug, PartialEq, Eq)]
 pub struct OpenedLink {
     pub link: Link,
     pub answer: Result<(), Refusal>,
