@@ -9,12 +9,11 @@ use Rattle.elements.specs.declared.refusals.Refusal.{Refusal}
 use Rattle.link_state.specs.declared.State.{State}
 use Rattle.link_state.specs.declared.Link.{Link}
 use Rattle.link.specs.Frames.{wire}
-use Rattle.link.specs.Making.{Making, window_full}
+use Rattle.link.specs.Making.{window_full}
 use Rattle.link.specs.Events.{Outcome}
 use Rattle.link.specs.declared.answers.Done.{Done}
 use Rattle.link.specs.declared.answers.Called.{Called}
 use Rattle.link.specs.declared.answers.Step.{Step}
-use Rattle.link.specs.declared.answers.Made.{Made}
 
 -- ---- answers
 
@@ -76,25 +75,11 @@ pub record Comes (refused : ℕ) (l : Link) (Runs : Step → List ℕ → List �
 
 -- ---- what a step has done
 
-abbrev pub made_of : State → ℕ → Made
-made_of s end = record { state = s; end = end }
-
 unfoldable pub done_step : State → ℕ → Bool → Step
 done_step s written came = record { state = s; answer = Ok (record { written = written; full = window_full s; came = came }) }
 
 unfoldable pub refused_step : State → Refusal → Step
 refused_step s r = record { state = s; answer = Err r }
-
--- the frames of a call in the making, written from place `at` on
-pub record Makes (g : Making) (at : ℕ) (out : List ℕ) (r : Made) (out' : List ℕ) : Type 0 where
-  pub state : r.state ≡ g.state
-  pub end : r.end ≡ at + length (wire g.frames)
-  pub octets : out' ≡ sets out at (wire g.frames)
-
--- the same, with the ring lent
-pub record HandsOut (g : Making) (at : ℕ) (out : List ℕ) (r : Made) (times' out' : List ℕ) : Type 0 where
-  pub makes : Makes g at out r out'
-  pub ring : times' ≡ g.times
 
 -- an event has done what its outcome says; then with the ring lent; then with the pool lent too
 pub record Answers (o : Outcome) (out : List ℕ) (r : Step) (out' : List ℕ) : Type 0 where
@@ -109,7 +94,8 @@ pub record DoesSend (o : Outcome) (out : List ℕ) (r : Step) (times' pool' out'
   pub does : Does o out r times' out'
   pub pool : pool' ≡ o.pool
 
--- ---- what a step rests on
+-- ---- what a step rests on. Kept: no type with an invariant, since these are facts of a state and of the lengths of what is
+-- lent beside it, and a `State` may hold anything: callers build it, and a call refuses what is unsound
 
 -- times that can be added to the clock
 pub record Timed (s : State) (now : ℕ) : Type 0 where

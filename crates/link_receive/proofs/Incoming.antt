@@ -24,11 +24,12 @@ use Rattle.link_state.specs.Acknowledging.{confirms, ack_refusal, acknowledged}
 use Rattle.link_state.specs.declared.State.{State}
 use Rattle.link_state.proofs.Acks.{frees_within}
 use Rattle.link.specs.declared.answers.Step.{Step}
-use Rattle.link.specs.declared.answers.Made.{Made}
+use Rattle.link_steps.specs.declared.steps.Made.{Made}
 use Rattle.link.specs.Frames.{wire, stop_act, stop_con, test_act, test_con}
 use Rattle.link.specs.Making.{Making, freed_of, room, send_waiting, set_t3, start_t2, become, ending, shut}
 use Rattle.link.specs.Events.{accepting, closing, start, release, s_freeing, on_s, received, i_freeing, on_i, test_acted, test_confirmed, stopped, on_u, on_answer, on_frame}
-use Rattle.link.specs.Answering.{Makes, HandsOut, Answers, Does, Timed, Open, done_step, refused_step}
+use Rattle.link.specs.Answering.{Answers, Does, Timed, Open, done_step, refused_step}
+use Rattle.link_steps.specs.Steps.{made_of, Makes, HandsOut}
 use Rattle.link_steps.proofs.Made.{makes_become, makes_u, makes_none, answers_accepting, answers_ending, answers_closing}
 use Rattle.link_steps.proofs.Flushing.{after_flush, can_flush, flush_short}
 use Rattle.link_steps.proofs.Unchanged.{ending_times}
@@ -134,27 +135,27 @@ module _ (s : State) (got : ℕ) (ts ps out : List ℕ) (more : Bool) (now : ℕ
   right : {d : ℕ} → a ≡ Ok d → acknowledged s.window.next.0 s.window.held got ≡ Ok d
   right is = sym acked ∙ is
 
-  pub s_frees : {d : ℕ} {m ended : Made} {t : State} {r : Step} {ts₁ out₁ out₂ : List ℕ} → a ≡ Ok d
-      → HandsOut (release d now s ts ps) 0 out m ts₁ out₁ → t ≡ set_t3 now m.state
-      → ((l : List ℕ) → Makes (ending more now (start t l)) m.end out₁ ended out₂) → r ≡ done_step ended.state ended.end false
+  pub s_frees : {d : ℕ} {m t ended : Made} {r : Step} {ts₁ out₁ out₂ : List ℕ} → a ≡ Ok d
+      → HandsOut (release d now s ts ps) 0 out m ts₁ out₁ → t ≡ made_of (set_t3 now m.state) m.end
+      → ((l : List ℕ) → Makes (ending more now (start t.state l)) t.end out₁ ended out₂) → r ≡ done_step ended.state ended.end false
       → Does (on_s got s ts ps more now) out r ts₁ out₂
   unfolding on_s s_freeing accepting
   s_frees {d} is let_out_law timed finished accepted =
       let g = release d now s ts ps in
       let one = makes_become (set_t3 now) let_out_law.makes timed in
-      rw (right is) (record { answers = answers_ending false more now ps one one.state finished accepted; ring = let_out_law.ring ∙ sym (ending_times more now (become (set_t3 now) g)) })
+      rw (right is) (record { answers = answers_ending false more now ps one finished accepted; ring = let_out_law.ring ∙ sym (ending_times more now (become (set_t3 now) g)) })
 
-  pub i_frees : (sent : ℕ) {d : ℕ} {m ended : Made} {c t₂ t : State} {r : Step} {ts₁ out₁ out₂ : List ℕ} → sent ≡ s.receive.next.0 → a ≡ Ok d
-      → c ≡ received s → HandsOut (release d now c ts ps) 0 out m ts₁ out₁ → t₂ ≡ start_t2 now m.state → t ≡ set_t3 now t₂
-      → ((l : List ℕ) → Makes (ending more now (start t l)) m.end out₁ ended out₂) → r ≡ done_step ended.state ended.end true
+  pub i_frees : (sent : ℕ) {d : ℕ} {m t₂ t ended : Made} {c : State} {r : Step} {ts₁ out₁ out₂ : List ℕ} → sent ≡ s.receive.next.0 → a ≡ Ok d
+      → c ≡ received s → HandsOut (release d now c ts ps) 0 out m ts₁ out₁ → t₂ ≡ made_of (start_t2 now m.state) m.end → t ≡ made_of (set_t3 now t₂.state) t₂.end
+      → ((l : List ℕ) → Makes (ending more now (start t.state l)) t.end out₁ ended out₂) → r ≡ done_step ended.state ended.end true
       → Does (on_i sent got s ts ps more now) out r ts₁ out₂
   unfolding on_i i_freeing accepting
   i_frees sent {d} {m} {ts₁ = ts₁} {out₁ = out₁} e is counted let_out_law started timed finished accepted =
       let g = release d now (received s) ts ps in
       let f : State → State = λ x. set_t3 now (start_t2 now x) in
       let let-out' : HandsOut g 0 out m ts₁ out₁ = rw counted at let_out_law in
-      let one = makes_become f let-out'.makes (timed ∙ ap (set_t3 now) started) in
-      rw (eq-eqb sent s.receive.next.0 e, right is) (record { answers = answers_ending true more now ps one one.state finished accepted; ring = let-out'.ring ∙ sym (ending_times more now (become f g)) })
+      let one = makes_become (set_t3 now) (makes_become (start_t2 now) let-out'.makes started) timed in
+      rw (eq-eqb sent s.receive.next.0 e, right is) (record { answers = answers_ending true more now ps one finished accepted; ring = let-out'.ring ∙ sym (ending_times more now (become f g)) })
 
 -- ---- U frames
 
@@ -177,15 +178,15 @@ module _ (u : UFrame) (s : State) (ts ps out : List ℕ) (more : Bool) (now : �
       → r ≡ done_step (stopped now s) 6 false → Answers (on_u u s ts ps more now) out r out₁
   unfolding on_u
   u_stop_act n₁ n₂ e stored done =
-      let one = makes_u stop_con s ts 0 out {end = 6} refl stored in
-      let two = makes_become (stopped now) {s = stopped now s} one refl in
+      let one = makes_u stop_con s ts 0 out refl stored in
+      let two = makes_become (stopped now) {r = made_of (stopped now s) 6} one refl in
       rw (not_octet test_act n₁, not_octet test_con n₂, is_octet stop_act e) (answers_accepting false ps two done)
 
   pub u_stop_con : {r : Step} {out₁ : List ℕ} → (octet ≡ test_act → ⊥) → (octet ≡ test_con → ⊥) → (octet ≡ stop_act → ⊥) → octet ≡ stop_con
       → out₁ ≡ out → r ≡ done_step (stopped now s) 0 false → Answers (on_u u s ts ps more now) out r out₁
   unfolding on_u
   u_stop_con n₁ n₂ n₃ e same done =
-      let one = makes_become (stopped now) {s = stopped now s} (makes_none s ts 0 out) refl in
+      let one = makes_become (stopped now) {r = made_of (stopped now s) 0} (makes_none s ts 0 out) refl in
       rw (same, not_octet test_act n₁, not_octet test_con n₂, not_octet stop_act n₃, is_octet stop_con e) (answers_accepting false ps one done)
 
   pub u_other : {r : Step} {out₁ : List ℕ} → (octet ≡ test_act → ⊥) → (octet ≡ test_con → ⊥) → (octet ≡ stop_act → ⊥) → (octet ≡ stop_con → ⊥)

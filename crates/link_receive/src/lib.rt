@@ -6,13 +6,15 @@ ghost use Rattle.std.specs.Prelude.{◌≡◌, ℕ, ◌+◌, ◌≤◌, List, le
 ghost use Rattle.std.proofs.lemmas.List.Edits.{sets};
 ghost use Rattle.link.specs.Frames.{wire};
 ghost use Rattle.link.specs.Events.{release, received, tests_answered, test_acted, test_confirmed, stopped, on_s, on_i, on_u, on_frame, called, frame};
-ghost use Rattle.link.specs.Answering.{HandsOut, Answers, Does, Timed, Calm, Open, done_step, called_of};
+ghost use Rattle.link.specs.Answering.{Answers, Does, Timed, Calm, Open, done_step, called_of};
+ghost use Rattle.link_steps.specs.Steps.{HandsOut};
 
 use apdu::frame::{Frame, ReceiveNumber, SendNumber, UFrame};
-use apdu::{reading, writing};
+use apdu::reading;
 use elements::refusals::Refusal;
-use link::answers::{Called, Made, Step};
+use link::answers::{Called, Step};
 use link_state::{Link, State, acknowledging};
+use link_steps::steps::Made;
 use link_steps::{steps, waiting};
 
 // The oldest frames are confirmed, and what waits goes out as far as the window takes it.
@@ -47,10 +49,10 @@ fn on_s(
         Ok(freed) => freed,
         Err(r) => return steps::close(s, r),
     };
-    let made = release(s, times, pool, &mut *out, freed, moment);
-    let stamped = steps::set_t3(made.state, moment);
-    let ended = steps::finish(stamped, out, made.end, more, moment);
-    steps::accept(ended, false)
+    release(s, times, pool, &mut *out, freed, moment)
+        .set_t3(moment)
+        .finish(out, more, moment)
+        .accept(false)
 }
 
 fn receive_one(mut s: State) -> State
@@ -82,12 +84,11 @@ fn on_i(
         Ok(freed) => freed,
         Err(r) => return steps::close(s, r),
     };
-    let counted = receive_one(s);
-    let made = release(counted, times, pool, &mut *out, freed, moment);
-    let started = steps::start_t2(made.state, moment);
-    let stamped = steps::set_t3(started, moment);
-    let ended = steps::finish(stamped, out, made.end, more, moment);
-    steps::accept(ended, true)
+    release(receive_one(s), times, pool, &mut *out, freed, moment)
+        .start_t2(moment)
+        .set_t3(moment)
+        .finish(out, more, moment)
+        .accept(true)
 }
 
 // Test con: no test is open any more.
@@ -104,32 +105,30 @@ fn on_test_act(s: State, out: &mut [u8], more: bool, moment: u64) -> Step
     requires { Calm s (length out.old) moment }
     ensures { (ts ps : List ℕ) → Answers (test_acted s ts ps more moment) out.old result out.new }
 {
-    writing::put_start(&mut *out, 0, 4, steps::TEST_CON, 0);
-    let stamped = steps::set_t3(s, moment);
-    let ended = steps::finish(stamped, out, 6, more, moment);
-    steps::accept(ended, false)
+    let said = Made::new(s).put_u(&mut *out, steps::TEST_CON);
+    let timed = said.set_t3(moment);
+    timed.finish(out, more, moment).accept(false)
 }
 
 fn on_test_con(s: State, out: &mut [u8], more: bool, moment: u64) -> Step
     requires { Calm s (length out.old) moment }
     ensures { (ts ps : List ℕ) → Answers (test_confirmed s ts ps more moment) out.old result out.new }
 {
-    let answered = tests_answered(s);
-    let stamped = steps::set_t3(answered, moment);
-    let ended = steps::finish(stamped, out, 0, more, moment);
-    steps::accept(ended, false)
+    Made::new(tests_answered(s))
+        .set_t3(moment)
+        .finish(out, more, moment)
+        .accept(false)
 }
 
-// A stop ends the link with reason 0, after `end` octets were written.
-fn end_by_stop(s: State, end: usize, moment: u64) -> Step
-    requires { Timed s moment }
-    ensures { result ≡ done_step (stopped moment s) end false }
+// A stop ends the link with reason 0.
+fn end_by_stop(made: Made, moment: u64) -> Step
+    requires { Timed made.state moment }
+    ensures { result ≡ done_step (stopped moment made.state) made.end false }
 {
-    let mut m = steps::set_t3(s, moment);
-    m.clock = moment;
-    let state = steps::end_link(m, 0);
-    let made = Made { state, end };
-    steps::accept(made, false)
+    let mut timed = made.set_t3(moment);
+    timed.state.clock = moment;
+    timed.state = steps::end_link(timed.state, 0);
+    timed.accept(false)
 }
 
 fn on_u(s: State, out: &mut [u8], u: UFrame, more: bool, moment: u64) -> Step
@@ -144,11 +143,10 @@ fn on_u(s: State, out: &mut [u8], u: UFrame, more: bool, moment: u64) -> Step
         return on_test_con(s, out, more, moment);
     }
     if octet == steps::STOP_ACT {
-        writing::put_start(out, 0, 4, steps::STOP_CON, 0);
-        return end_by_stop(s, 6, moment);
+        return end_by_stop(Made::new(s).put_u(out, steps::STOP_CON), moment);
     }
     if octet == steps::STOP_CON {
-        return end_by_stop(s, 0, moment);
+        return end_by_stop(Made::new(s), moment);
     }
     steps::close(s, Refusal::UNotAnswered)
 }

@@ -12,6 +12,7 @@ use asdu::Form;
 use elements::refusals::Refusal;
 use link::answers::{Called, Step};
 use link_state::{Link, State, limits};
+use link_steps::steps::Made;
 use link_steps::{steps, waiting};
 
 // The window is open.
@@ -19,9 +20,10 @@ fn send_now(s: State, times: &mut [u64], out: &mut [u8], asdu: &[u8], moment: u6
     requires { Open s (length times.old) 3984 (length out.old) moment × (s.window.held < s.settings.k) × (length asdu.now ≤ 249) }
     ensures { (ps : List ℕ) → Does (accepting false ps (ending false moment (hand_out moment asdu.now (start s times.old)))) out.old result times.new out.new }
 {
-    let made = steps::hand_out(s, times, &mut *out, 0, asdu, moment);
-    let ended = steps::finish(made.state, out, made.end, false, moment);
-    steps::accept(ended, false)
+    Made::new(s)
+        .hand_out(times, &mut *out, asdu, moment)
+        .finish(out, false, moment)
+        .accept(false)
 }
 
 fn send_plain(
@@ -41,9 +43,9 @@ fn send_plain(
     if s.settings.p <= s.queue.count {
         return steps::refuse(s, Refusal::QueueFull);
     }
-    let queued = waiting::enqueue(s, pool, asdu);
-    let ended = steps::finish(queued, out, 0, false, moment);
-    steps::accept(ended, false)
+    Made::new(waiting::enqueue(s, pool, asdu))
+        .finish(out, false, moment)
+        .accept(false)
 }
 
 fn on_send(

@@ -6,11 +6,12 @@ use native.Mathlib.Omega.{arith}
 use lib.ListN.{length, get_or, length-set, length-append, length-take, length-drop}
 use Rattle.link_state.specs.declared.State.{State}
 use Rattle.apdu.specs.declared.frame.ReceiveNumber.{ReceiveNumber}
-use Rattle.link.specs.declared.answers.Made.{Made}
+use Rattle.link_steps.specs.declared.steps.Made.{Made}
 use Rattle.link.specs.Frames.{i_frame, octets_of, wire}
 use Rattle.link.specs.Making.{Making, with_queue, sent_of, hand_out, shifted, slot, first_waiting, let_out, flushed, room}
 use Rattle.link.specs.Events.{start}
-use Rattle.link.specs.Answering.{HandsOut, CanLetOut, CanFlush, Open}
+use Rattle.link.specs.Answering.{CanLetOut, CanFlush, Open}
+use Rattle.link_steps.specs.Steps.{HandsOut}
 use Rattle.apdu.proofs.Answers.{i_long}
 use Rattle.link.proofs.Wires.{wire_append, wire_one}
 use Rattle.link_steps.proofs.Made.{let_out_appends}

@@ -13,14 +13,15 @@ use Rattle.laws.proofs.Lists.{sets_append}
 use Rattle.elements.specs.Refusals.{number}
 use Rattle.elements.specs.declared.refusals.Refusal.{Refusal}
 use Rattle.link_state.specs.declared.State.{State}
-use Rattle.link.specs.declared.answers.Made.{Made}
+use Rattle.link_steps.specs.declared.steps.Made.{Made}
 use Rattle.link.specs.declared.answers.Step.{Step}
 use Rattle.apdu.specs.Control.{u_of, u_octet}
 use Rattle.apdu.specs.Writing.{start_octets, i_octets, s_octets, u_octets}
 use Rattle.link.specs.Frames.{Frame, i_frame, s_frame, u_with, octets_of, wire, test_act}
 use Rattle.link.specs.Making.{Making, become, say, sent_of, confirm, confirmed_of, tested, tested_of, ending, hand_out, let_out, due, with_clock, shut}
 use Rattle.link.specs.Events.{start, accepting, closing, refusing}
-use Rattle.link.specs.Answering.{Makes, HandsOut, Answers, made_of, done_step, refused_step, step_for, answer_of}
+use Rattle.link.specs.Answering.{Answers, done_step, refused_step, step_for, answer_of}
+use Rattle.link_steps.specs.Steps.{Makes, HandsOut, made_of}
 use Rattle.apdu.proofs.Answers.{i_long, s_long, u_long}
 use Rattle.link.proofs.Numbered.{some_number, numbered}
 use Rattle.link.proofs.Wires.{wire_append, wire_one}
@@ -34,12 +35,12 @@ abbrev pub Appends : (Making → Making) → Type 0
 Appends F = (g : Making) → F g ≡ after g.frames (F (start g.state g.times))
 
 -- what one step has made, and the next one from there
-pub makes_then : {F : Making → Making} → Appends F → {g : Making} {at : ℕ} {out out₁ out₂ : List ℕ} {m r : Made} {s : State}
-    → Makes g at out m out₁ → s ≡ g.state → Makes (F (start s g.times)) m.end out₁ r out₂ → Makes (F g) at out r out₂
-makes_then {F} appends {g} {at} {out} {out₁} {out₂} {m} {r} {s} one same two =
+pub makes_then : {F : Making → Making} → Appends F → {g : Making} {at : ℕ} {out out₁ out₂ : List ℕ} {m r : Made}
+    → Makes g at out m out₁ → Makes (F (start m.state g.times)) m.end out₁ r out₂ → Makes (F g) at out r out₂
+makes_then {F} appends {g} {at} {out} {out₁} {out₂} {m} {r} one two =
     let h = F (start g.state g.times) in
     let e : F g ≡ after g.frames h = appends g in
-    let two' : Makes h m.end out₁ r out₂ = rw same at two in
+    let two' : Makes h m.end out₁ r out₂ = rw one.state at two in
     let w : wire (g.frames ++ h.frames) ≡ wire g.frames ++ wire h.frames = wire_append g.frames h.frames in
     rw e (record {
       state = two'.state;
@@ -51,23 +52,29 @@ pub hands_then : {F : Making → Making} → Appends F → {g : Making} {at : �
     → HandsOut g at out m ts out₁ → HandsOut (F (start m.state ts)) m.end out₁ r ts₂ out₂ → HandsOut (F g) at out r ts₂ out₂
 hands_then {F} appends {g} one two =
     let two' : HandsOut (F (start g.state g.times)) _ _ _ _ _ = rw (one.makes.state, one.ring) at two in
-    record { makes = makes_then appends one.makes refl two'.makes; ring = two'.ring ∙ ap (λ (h : Making). h.times) (sym (appends g)) }
+    record { makes = makes_then appends one.makes (rw one.ring at two.makes); ring = two'.ring ∙ ap (λ (h : Making). h.times) (sym (appends g)) }
 
 -- a step that changes the state alone
-pub makes_become : (f : State → State) {g : Making} {at : ℕ} {out out₁ : List ℕ} {m : Made} {s : State}
-    → Makes g at out m out₁ → s ≡ f m.state → Makes (become f g) at out (record { state = s; end = m.end }) out₁
-makes_become f one e = record { state = e ∙ ap f one.state; end = one.end; octets = one.octets }
+pub makes_become : (f : State → State) {g : Making} {at : ℕ} {out out₁ : List ℕ} {m r : Made}
+    → Makes g at out m out₁ → r ≡ made_of (f m.state) m.end → Makes (become f g) at out r out₁
+makes_become f one e =
+    record {
+      state = ap (λ (x : Made). x.state) e ∙ ap f one.state;
+      end = ap (λ (x : Made). x.end) e ∙ one.end;
+      octets = one.octets;
+    }
 
 -- one frame
 pub makes_say : (f : Frame) (s : State) (ts : List ℕ) (at : ℕ) (out : List ℕ) {end : ℕ} {out₁ : List ℕ}
     → end ≡ at + length (octets_of f) → out₁ ≡ sets out at (octets_of f) → Makes (say f (start s ts)) at out (record { state = s; end = end }) out₁
 makes_say f s ts at out e o = record { state = refl; end = rw (wire_one f) e; octets = rw (wire_one f) o }
 
-pub makes_u : (octet : ℕ) (s : State) (ts : List ℕ) (at : ℕ) (out : List ℕ) {end : ℕ} {out₁ : List ℕ}
-    → end ≡ at + 6 → out₁ ≡ sets out at (start_octets 4 (u_octet (u_of octet)) 0)
-    → Makes (say (u_with octet) (start s ts)) at out (record { state = s; end = end }) out₁
+pub makes_u : (octet : ℕ) (s : State) (ts : List ℕ) (at : ℕ) (out : List ℕ) {r : Made} {out₁ : List ℕ}
+    → r ≡ made_of s (at + 6) → out₁ ≡ sets out at (start_octets 4 (u_octet (u_of octet)) 0)
+    → Makes (say (u_with octet) (start s ts)) at out r out₁
 unfolding octets_of u_octets
-makes_u octet s ts at out e o = makes_say (u_with octet) s ts at out (e ∙ ap (λ (n : ℕ). at + n) (sym (u_long (u_of octet)))) o
+makes_u octet s ts at out e o =
+    rw e (makes_say (u_with octet) s ts at out (ap (λ (n : ℕ). at + n) (sym (u_long (u_of octet)))) o)
 
 -- nothing yet
 pub makes_none : (s : State) (ts : List ℕ) (at : ℕ) (out : List ℕ) → Makes (start s ts) at out (record { state = s; end = at }) out
@@ -146,11 +153,11 @@ unfolding accepting step_for answer_of done_step
 answers_accepting came pool one e = record { step = rw (e, one.state, one.end, zero-add); octets = one.octets }
 
 -- the end of an accepted call: the clock and the rule of confirming, then the answer
-pub answers_ending : (came more : Bool) (now : ℕ) (pool : List ℕ) {g : Making} {out out₁ out₂ : List ℕ} {m ended : Made} {s : State} {r : Step}
-    → Makes g 0 out m out₁ → s ≡ g.state → ((ts : List ℕ) → Makes (ending more now (start s ts)) m.end out₁ ended out₂)
+pub answers_ending : (came more : Bool) (now : ℕ) (pool : List ℕ) {g : Making} {out out₁ out₂ : List ℕ} {m ended : Made} {r : Step}
+    → Makes g 0 out m out₁ → ((ts : List ℕ) → Makes (ending more now (start m.state ts)) m.end out₁ ended out₂)
     → r ≡ done_step ended.state ended.end came → Answers (accepting came pool (ending more now g)) out r out₂
-answers_ending came more now pool {g} one same finished e =
-    answers_accepting came pool (makes_then (ending_appends more now) one same (finished g.times)) e
+answers_ending came more now pool {g} one finished e =
+    answers_accepting came pool (makes_then (ending_appends more now) one (finished g.times)) e
 
 pub answers_closing : (k : Refusal) (s : State) (ts pool out : List ℕ) {r : Step}
     → r ≡ refused_step (shut (number k) s) k → Answers (closing (number k) s ts pool) out r out

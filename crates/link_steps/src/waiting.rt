@@ -3,10 +3,10 @@ ghost use Rattle.std.specs.Prelude.{◌≡◌, ◌+◌, ◌*◌, ◌≤◌, leng
 ghost use Rattle.std.proofs.lemmas.List.Edits.{sets};
 ghost use Rattle.link.specs.Making.{with_queue, shifted, queued, free_slot, let_out, flushed, room, send_waiting};
 ghost use Rattle.link.specs.Events.{start};
-ghost use Rattle.link.specs.Answering.{HandsOut, CanLetOut, CanFlush, Open};
+ghost use Rattle.link.specs.Answering.{CanLetOut, CanFlush, Open};
+ghost use Rattle.link_steps.specs.Steps.{HandsOut};
 
-use crate::steps;
-use link::answers::Made;
+use crate::steps::Made;
 use link_state::State;
 
 // Octets of a slot.
@@ -36,17 +36,17 @@ fn shift(mut s: State) -> State
 }
 
 // The first that waits goes out.
-fn let_out(s: State, times: &mut [u64], pool: &[u8], out: &mut [u8], at: usize, moment: u64) -> Made
-    requires { CanLetOut s (length times.old) (length pool.now) (length out.old) at }
-    ensures { HandsOut (let_out moment pool.now (start s times.old)) at out.old result times.new out.new }
+fn let_out(made: Made, times: &mut [u64], pool: &[u8], out: &mut [u8], moment: u64) -> Made
+    requires { CanLetOut made.state (length times.old) (length pool.now) (length out.old) made.end }
+    ensures { HandsOut (let_out moment pool.now (start made.state times.old)) made.end out.old result times.new out.new }
 {
-    let place = s.queue.place;
-    let from = place * SLOT;
-    let to = from + s.queue.lengths[place];
-    let made = steps::hand_out(s, times, out, at, &pool[from..to], moment);
+    let q = made.state.queue;
+    let from = q.place * SLOT;
+    let to = from + q.lengths[q.place];
+    let handed = made.hand_out(times, out, &pool[from..to], moment);
     Made {
-        state: shift(made.state),
-        end: made.end,
+        state: shift(handed.state),
+        ..handed
     }
 }
 
@@ -55,9 +55,9 @@ fn flush(s: State, times: &mut [u64], pool: &[u8], out: &mut [u8], n: usize, mom
     requires { CanFlush s n (length times.old) (length pool.now) (length out.old) }
     ensures { HandsOut (flushed n moment pool.now (start s times.old)) 0 out.old result times.new out.new }
 {
-    let mut made = Made { state: s, end: 0 };
+    let mut made = Made::new(s);
     for _ in 0..n {
-        made = let_out(made.state, &mut *times, pool, &mut *out, made.end, moment);
+        made = let_out(made, &mut *times, pool, &mut *out, moment);
     }
     made
 }

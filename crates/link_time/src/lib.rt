@@ -6,23 +6,24 @@ ghost use Rattle.std.proofs.lemmas.List.Edits.{sets};
 ghost use Rattle.link.specs.Frames.{wire};
 ghost use Rattle.elements.specs.Refusals.{answer};
 ghost use Rattle.link.specs.Events.{start, is_due, t1i_due, tick_refusal, ticked_t2, ticked_t3, on_stop, on_test, on_tick, called, stop, test, tick};
-ghost use Rattle.link.specs.Answering.{Answers, Makes, Calm, Aged, called_of};
+ghost use Rattle.link.specs.Answering.{Answers, Calm, Aged, called_of};
+ghost use Rattle.link_steps.specs.Steps.{Makes};
 
-use apdu::writing;
 use elements::refusals::Refusal;
-use link::answers::{Called, Made, Step};
+use link::answers::{Called, Step};
 use link_state::{Link, State};
 use link_steps::steps;
+use link_steps::steps::Made;
 
 fn on_stop(s: State, out: &mut [u8], moment: u64) -> Step
     requires { Calm s (length out.old) moment }
     ensures { (ts ps : List ℕ) → Answers (on_stop s ts ps moment) out.old result out.new }
 {
-    writing::put_start(&mut *out, 0, 4, steps::STOP_ACT, 0);
-    let made = steps::confirm(s, &mut *out, 6);
-    let timed = steps::set_t1u(made.state, moment);
-    let ended = steps::finish(timed, out, made.end, false, moment);
-    steps::accept(ended, false)
+    let said = Made::new(s)
+        .put_u(&mut *out, steps::STOP_ACT)
+        .confirm(&mut *out);
+    let timed = said.set_t1u(moment);
+    timed.finish(out, false, moment).accept(false)
 }
 
 fn on_test(s: State, out: &mut [u8], moment: u64) -> Step
@@ -32,9 +33,10 @@ fn on_test(s: State, out: &mut [u8], moment: u64) -> Step
     if 2 < s.timers.tests {
         return steps::close(s, Refusal::TooManyTests);
     }
-    let made = steps::send_test(s, &mut *out, 0, moment);
-    let ended = steps::finish(made.state, out, made.end, false, moment);
-    steps::accept(ended, false)
+    Made::new(s)
+        .send_test(&mut *out, moment)
+        .finish(out, false, moment)
+        .accept(false)
 }
 
 fn is_due(d: Option<u64>, moment: u64) -> bool
@@ -77,10 +79,11 @@ fn tick_t2(s: State, out: &mut [u8], moment: u64) -> Made
     requires { Calm s (length out.old) moment }
     ensures { (ts : List ℕ) → Makes (ticked_t2 moment (start s ts)) 0 out.old result out.new }
 {
+    let made = Made::new(s);
     if is_due(s.timers.t2, moment) {
-        return steps::confirm(s, out, 0);
+        return made.confirm(out);
     }
-    Made { state: s, end: 0 }
+    made
 }
 
 // Then t3 due acts as Test.
@@ -89,7 +92,7 @@ fn tick_t3(m: Made, t3: Option<u64>, out: &mut [u8], moment: u64) -> Made
     ensures { (ts : List ℕ) → Makes (ticked_t3 t3 moment (start m.state ts)) m.end out.old result out.new }
 {
     if is_due(t3, moment) {
-        return steps::send_test(m.state, out, m.end, moment);
+        return m.send_test(out, moment);
     }
     m
 }
@@ -103,8 +106,7 @@ fn on_tick(s: State, times: &[u64], out: &mut [u8], moment: u64) -> Step
     }
     let confirmed = tick_t2(s, &mut *out, moment);
     let tested = tick_t3(confirmed, s.timers.t3, &mut *out, moment);
-    let ended = steps::finish(tested.state, out, tested.end, false, moment);
-    steps::accept(ended, false)
+    tested.finish(out, false, moment).accept(false)
 }
 
 pub fn stop(l: Link, pool: &[u8], out: &mut [u8], moment: u64) -> Called

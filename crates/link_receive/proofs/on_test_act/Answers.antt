@@ -1,4 +1,3 @@
-use mathlib.Core.Path.{refl}
 use mathlib.Core.Bool.{false}
 use Rattle.link.specs.Frames.{test_con}
 use Rattle.link.specs.Making.{set_t3}
@@ -11,6 +10,5 @@ unfolding test_acted
 returns c =
     let a = c.args in
     λ ts ps.
-    let one = makes_u test_con a.s ts 0 a.out.now {end = 6} refl c.put_start.ensures in
-    let two = makes_become (set_t3 a.moment) one c.set_t3-stamped.ensures in
-    answers_ending false a.more a.moment ps two two.state c.finish-ended.ensures c.accept.ensures
+    let one = makes_u test_con a.s ts 0 a.out.now (rw c.new.ensures at c.put_u-said.ensures.value) (rw c.new.ensures at c.put_u-said.ensures.out_after) in
+    answers_ending false a.more a.moment ps (makes_become (set_t3 a.moment) one c.set_t3-timed.ensures) c.finish.ensures c.accept.ensures

@@ -1,4 +1,3 @@
-use mathlib.Core.Path.{ap, ◌∙◌}
 use mathlib.Core.Bool.{false}
 use Rattle.link_state.specs.declared.State.{State}
 use Rattle.link.specs.Making.{set_t3}
@@ -12,5 +11,5 @@ returns c =
     let a = c.args in
     let f : State → State = λ x. set_t3 a.moment (tests_answered x) in
     λ ts ps.
-    let one = makes_become f (makes_none a.s ts 0 a.out.now) (c.set_t3-stamped.ensures ∙ ap (set_t3 a.moment) c.tests_answered-answered.ensures) in
-    answers_ending false a.more a.moment ps one one.state c.finish-ended.ensures c.accept.ensures
+    let one = makes_become f (makes_none a.s ts 0 a.out.now) (rw (c.new.ensures, c.tests_answered.ensures) at c.set_t3.ensures) in
+    answers_ending false a.more a.moment ps one c.finish.ensures c.accept.ensures

@@ -15,12 +15,12 @@ returns-then-octet-eq-TEST_CON c =
 pub returns-then-octet-eq-STOP_ACT : goal.returns-then-octet-eq-STOP_ACT
 returns-then-octet-eq-STOP_ACT c =
     let a = c.args in
-    λ ts ps. u_stop_act a.u a.s ts ps a.out.now a.more a.moment c.to_byte-octet.ensures c.if-octet-eq-TEST_ACT.false c.if-octet-eq-TEST_CON.false c.if-octet-eq-STOP_ACT.true c.put_start.ensures c.end_by_stop.ensures
+    λ ts ps. u_stop_act a.u a.s ts ps a.out.now a.more a.moment c.to_byte-octet.ensures c.if-octet-eq-TEST_ACT.false c.if-octet-eq-TEST_CON.false c.if-octet-eq-STOP_ACT.true (rw c.new.ensures at c.put_u.ensures.out_after) (rw (c.put_u.ensures.value, c.new.ensures) at c.end_by_stop.ensures)
 
 pub returns-then-octet-eq-STOP_CON : goal.returns-then-octet-eq-STOP_CON
 returns-then-octet-eq-STOP_CON c =
     let a = c.args in
-    λ ts ps. u_stop_con a.u a.s ts ps a.out.now a.more a.moment c.to_byte-octet.ensures c.if-octet-eq-TEST_ACT.false c.if-octet-eq-TEST_CON.false c.if-octet-eq-STOP_ACT.false c.if-octet-eq-STOP_CON.true refl c.end_by_stop-then-octet-eq-STOP_CON.ensures
+    λ ts ps. u_stop_con a.u a.s ts ps a.out.now a.more a.moment c.to_byte-octet.ensures c.if-octet-eq-TEST_ACT.false c.if-octet-eq-TEST_CON.false c.if-octet-eq-STOP_ACT.false c.if-octet-eq-STOP_CON.true refl (rw c.new-then-octet-eq-STOP_CON.ensures at c.end_by_stop-then-octet-eq-STOP_CON.ensures)
 
 pub returns : goal.returns
 returns c =

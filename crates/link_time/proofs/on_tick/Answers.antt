@@ -26,8 +26,8 @@ tick_t3-tested-requires c =
     let short = short_t2 c.args.s [] 0 c.args.moment in
     (rw (done.state, t2.auto.out) (calm_t2 c.args.s [] _ c.args.moment c.requires.0), omega arith)
 
-pub finish-ended-requires : goal.finish-ended-requires
-finish-ended-requires c =
+pub finish-requires : goal.finish-requires
+finish-requires c =
     let t2 = c.tick_t2-confirmed in
     let t3 = c.tick_t3-tested in
     let one = t2.ensures [] in
@@ -52,5 +52,5 @@ returns c =
     let passed = made_some (tick_refusal a.s a.times.now a.moment) tt _ (sym c.check_tick.ensures ∙ c.in_default.is) in
     let g₂ = ticked_t2 a.moment (start a.s a.times.now) in
     let one = c.tick_t2-confirmed.ensures a.times.now in
-    let two = makes_then (ticked_t3_appends a.s.timers.t3 a.moment) one one.state (c.tick_t3-tested.ensures g₂.times) in
-    λ ps. rw passed (answers_ending false false a.moment ps two two.state c.finish-ended.ensures c.accept.ensures)
+    let two = makes_then (ticked_t3_appends a.s.timers.t3 a.moment) one (c.tick_t3-tested.ensures g₂.times) in
+    λ ps. rw passed (answers_ending false false a.moment ps two c.finish.ensures c.accept.ensures)

@@ -7,10 +7,10 @@ pub returns-then-is_due : goal.returns-then-is_due
 unfolding ticked_t2
 returns-then-is_due c =
     let yes = sym c.is_due.ensures ∙ c.if-is_due.true in
-    λ ts. rw yes (makes_confirm _ ts _ _ c.confirm.ensures.value c.confirm.ensures.out_after)
+    λ ts. rw yes (makes_confirm c.args.s ts 0 _ (rw c.new-made.ensures at c.confirm.ensures.value) (rw c.new-made.ensures at c.confirm.ensures.out_after))
 
 pub returns : goal.returns
 unfolding ticked_t2
 returns c =
     let no = sym c.is_due.ensures ∙ c.if-is_due.false in
-    λ ts. rw no (makes_none _ ts _ _)
+    λ ts. rw (no, c.new-made.ensures) (makes_none _ ts _ _)

@@ -13,7 +13,7 @@ pub loop-init : goal.loop-init
 unfolding flushed
 loop-init c =
     let a = c.args in
-    (omega arith, refl, refl, record { makes = makes_none a.s a.times.now 0 a.out.now; ring = refl })
+    rw c.new-made.ensures (omega arith, refl, refl, record { makes = makes_none a.s a.times.now 0 a.out.now; ring = refl })
 
 -- the next one can go
 next : (c : In-loop) → CanLetOut c.loop.made.state (length c.loop.times) (length c.args.pool.now) (length c.loop.out) c.loop.made.end

@@ -3,7 +3,7 @@ use mathlib.Core.Path.{◌≡◌}
 use lib.ListN.{length}
 use Rattle.link.specs.Making.{flushed}
 use Rattle.link.specs.Events.{start}
-use Rattle.link.specs.Answering.{HandsOut}
+use Rattle.link_steps.specs.Steps.{HandsOut}
 use Rattle.link_steps.proofs.waiting.flush.Given as goal
 
 abbrev pub invariant-loop : goal.invariant-loop

@@ -1,7 +1,7 @@
 use mathlib.Core.Path.{sym, ◌∙◌}
 use Rattle.link.specs.Making.{ending, due}
 use Rattle.link_steps.proofs.Made.{makes_confirm, makes_none}
-use Rattle.link_steps.proofs.steps.finish.Goals as goal
+use Rattle.link_steps.proofs.steps.Made.finish.Goals as goal
 
 pub returns-then-must_confirm : goal.returns-then-must_confirm
 unfolding ending due
