@@ -87,7 +87,7 @@ impl Bench {
         match ended {
             Ok(()) => Ok(()),
             Err(Wrong::Bad) => println!(rt; "bad"),
-            Err(Wrong::Refused(refusal)) => println!(rt; "refused {}", refusal.0),
+            Err(Wrong::Refused(refusal)) => println!(rt; "{refusal}"),
             Err(Wrong::Output(error)) => Err(error),
         }
     }

@@ -1,5 +1,5 @@
 // The commands `asdu` and `rewriteasdu`.
-use asdu::{Answer, Asdu, WriteAnswer, header};
+use asdu::{Asdu, header};
 use drive_values::Shown;
 use std::fmt;
 use test_text::octets::Hex;
@@ -30,22 +30,16 @@ impl<'a> fmt::Display for Record<'a> {
 
 pub fn show(rt: &impl Print, given: &[u8]) -> Result<(), Wrong> {
     let read = asdu_read::read_asdu(given);
-    if let Answer::Refused(refusal) = read.answer {
-        return Err(Wrong::Refused(refusal));
-    }
+    read.answer?;
     println!(rt; "{}", Record(&read.asdu))?;
     Ok(())
 }
 
 pub fn rewrite(rt: &impl Print, given: &[u8]) -> Result<(), Wrong> {
     let read = asdu_read::read_asdu(given);
-    if let Answer::Refused(refusal) = read.answer {
-        return Err(Wrong::Refused(refusal));
-    }
+    read.answer?;
     let mut out = [0; header::MAX_SIZE];
-    match asdu_write::write_asdu(read.asdu, &mut out) {
-        WriteAnswer::Octets(n) => println!(rt; "{}", Hex(&out[..n.min(header::MAX_SIZE)]))?,
-        WriteAnswer::Refused(refusal) => return Err(Wrong::Refused(refusal)),
-    }
+    let n = asdu_write::write_asdu(&read.asdu, &mut out)?;
+    println!(rt; "{}", Hex(&out[..n.min(header::MAX_SIZE)]))?;
     Ok(())
 }

@@ -5,15 +5,14 @@ mod asdus;
 mod frames;
 
 use apdu::reading;
-use asdu::PlainAnswer;
+use asdu::Form;
 use test_text::wrong::Wrong;
 use test_text::{OCTETS_SIZE, octets};
 
-fn show_form(rt: &impl Print, answer: PlainAnswer) -> Result<(), Wrong> {
-    match answer {
-        PlainAnswer::Plain => println!(rt; "plain")?,
-        PlainAnswer::Reserved => println!(rt; "reserved")?,
-        PlainAnswer::Refused(refusal) => return Err(Wrong::Refused(refusal)),
+fn show_form(rt: &impl Print, form: Form) -> Result<(), Wrong> {
+    match form {
+        Form::Plain => println!(rt; "plain")?,
+        Form::Reserved => println!(rt; "reserved")?,
     }
     Ok(())
 }
@@ -24,10 +23,10 @@ pub fn answer(rt: &impl Print, name: &str, digits: &str) -> Result<(), Wrong> {
     let given = octets::take(digits, &mut room).ok_or(Wrong::Bad)?;
     match name {
         "frame" => frames::show(rt, given),
-        "plain" => show_form(rt, reading::plain_frame(given)),
+        "plain" => show_form(rt, reading::plain_frame(given)?),
         "rewrite" => frames::rewrite(rt, given),
         "asdu" => asdus::show(rt, given),
-        "plainasdu" => show_form(rt, asdu_plain::plain_asdu(given)),
+        "plainasdu" => show_form(rt, asdu_plain::plain_asdu(given)?),
         "rewriteasdu" => asdus::rewrite(rt, given),
         _ => Err(Wrong::Bad),
     }

@@ -5,7 +5,6 @@ mod told;
 
 use link::answers::Called;
 use link_state::limits::{MIN_OUTPUT, MIN_POOL};
-use link_state::opening::OpenAnswer;
 use link_state::{Link, Settings, opening};
 use test_text::wrong::Wrong;
 use test_text::{OCTETS_SIZE, numbers, octets};
@@ -43,9 +42,7 @@ impl Station {
         let [k, w, p, t1, t2, t3, now] = numbers::take::<7>(given).ok_or(Wrong::Bad)?;
         let opened = opening::open(settings_of(k, w, p, [t1, t2, t3]), now);
         self.link = None;
-        if let OpenAnswer::Refused(refusal) = opened.answer {
-            return Err(Wrong::Refused(refusal));
-        }
+        opened.answer?;
         self.link = Some(opened.link);
         println!(rt; "ok")?;
         Ok(())

@@ -1,5 +1,5 @@
 // What a call told: the number of the refusal (0 for none), what was written, and how the link stands after it.
-use link::answers::{Called, Done, LinkAnswer};
+use link::answers::{Called, Done};
 use std::fmt;
 use test_text::octets::Hex;
 
@@ -12,16 +12,16 @@ pub(crate) struct Told<'a> {
 impl<'a> Told<'a> {
     fn number(&self) -> u8 {
         match self.called.answer {
-            LinkAnswer::Done(_) => 0,
-            LinkAnswer::Refused(refusal) => refusal.0,
+            Ok(_) => 0,
+            Err(refusal) => u8::from(refusal),
         }
     }
 
     // Beside a refusal nothing was written and nothing came; the window is what it is.
     fn done(&self) -> Done {
         match self.called.answer {
-            LinkAnswer::Done(done) => done,
-            LinkAnswer::Refused(_) => {
+            Ok(done) => done,
+            Err(_) => {
                 let state = self.called.link.state;
                 Done {
                     written: 0,
@@ -55,7 +55,7 @@ impl<'a> fmt::Display for Told<'a> {
             f,
             " closed={} reason={}",
             u8::from(status.closed),
-            status.reason.0
+            status.reason
         )
     }
 }

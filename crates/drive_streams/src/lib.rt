@@ -1,9 +1,8 @@
 // The commands of `drive` on a stream: `topup` and `pick`, on a carry of 255 bytes and a chunk.
 #![tactic(auto)]
 
-use assembly::picking::PickAnswer;
-use assembly::topping::TopUpAnswer;
-use assembly::{picking, topping};
+use assembly::{Pick, picking, topping};
+use elements::refusals::Refusal;
 use test_text::wrong::Wrong;
 use test_text::{OCTETS_SIZE, octets};
 
@@ -21,11 +20,11 @@ fn take<'a>(
     Some((held, octets::take(second, room)?))
 }
 
-fn topped(carry: &mut [u8; OCTETS_SIZE], held: usize, chunk: &[u8]) -> TopUpAnswer {
+fn topped(carry: &mut [u8; OCTETS_SIZE], held: usize, chunk: &[u8]) -> Result<usize, Refusal> {
     topping::top_up(&mut carry[..CARRY_SIZE], held, chunk)
 }
 
-fn which(carry: &[u8; OCTETS_SIZE], held: usize, chunk: &[u8]) -> PickAnswer {
+fn which(carry: &[u8; OCTETS_SIZE], held: usize, chunk: &[u8]) -> Result<Pick, Refusal> {
     picking::which(&carry[..CARRY_SIZE], held, chunk)
 }
 
@@ -33,10 +32,8 @@ pub fn top_up(rt: &impl Print, given: &str) -> Result<(), Wrong> {
     let mut carry = [0; OCTETS_SIZE];
     let mut room = [0; OCTETS_SIZE];
     let (held, chunk) = take(given, &mut carry, &mut room).ok_or(Wrong::Bad)?;
-    match topped(&mut carry, held, chunk) {
-        TopUpAnswer::Moved(n) => println!(rt; "moved {n}")?,
-        TopUpAnswer::Refused(refusal) => return Err(Wrong::Refused(refusal)),
-    }
+    let moved = topped(&mut carry, held, chunk)?;
+    println!(rt; "moved {moved}")?;
     Ok(())
 }
 
@@ -44,11 +41,10 @@ pub fn pick(rt: &impl Print, given: &str) -> Result<(), Wrong> {
     let mut carry = [0; OCTETS_SIZE];
     let mut room = [0; OCTETS_SIZE];
     let (held, chunk) = take(given, &mut carry, &mut room).ok_or(Wrong::Bad)?;
-    match which(&carry, held, chunk) {
-        PickAnswer::Carry(n) => println!(rt; "carry {n}")?,
-        PickAnswer::Chunk(n) => println!(rt; "chunk {n}")?,
-        PickAnswer::More => println!(rt; "more")?,
-        PickAnswer::Refused(refusal) => return Err(Wrong::Refused(refusal)),
+    match which(&carry, held, chunk)? {
+        Pick::Carry(n) => println!(rt; "carry {n}")?,
+        Pick::Chunk(n) => println!(rt; "chunk {n}")?,
+        Pick::More => println!(rt; "more")?,
     }
     Ok(())
 }

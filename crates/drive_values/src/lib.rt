@@ -1,7 +1,7 @@
 // An information object as text: a space, its address, a colon and the fields of its value by their names. A mark is 0 or 1.
 #![tactic(auto)]
 
-use elements::information_elements::{Coi, Diq, Siq, Vti};
+use elements::information_elements::{Diq, Siq, Vti};
 use elements::quality_descriptors::{Qds, SeqQd};
 use objects::Object;
 use objects::values::Value;
@@ -31,17 +31,13 @@ impl fmt::Display for Fields<Value> {
             Value::MMeNc1(qds, bits) => write!(f, "bits={bits},{}", Fields(qds)),
             Value::MItNa1(n, seq_qd) => write!(f, "value={n},{}", Fields(seq_qd)),
             Value::MMeNd1(n) => write!(f, "value={n}"),
-            Value::MEiNa1(coi) => write!(f, "cause={}", octet_of(coi)),
+            // A cause that was read is never refused.
+            Value::MEiNa1(coi) => write!(f, "cause={}", coi.to_byte().unwrap_or(0)),
             Value::CIcNa1(qualifier) => write!(f, "qualifier={qualifier}"),
             Value::CCiNa1(qualifier) => write!(f, "qualifier={qualifier}"),
             Value::CRdNa1 => Ok(()),
         }
     }
-}
-
-// A cause that was read is never refused.
-fn octet_of(coi: Coi) -> u8 {
-    coi.to_byte().octet()
 }
 
 // What the quality of every kind but a counter begins with: iv, nt, sb and bl.

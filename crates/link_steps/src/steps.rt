@@ -25,7 +25,7 @@ pub const TEST_CON: u16 = 0x83;
 
 // What a call has made so far: the state, and how many octets of the output are written. Kept: the ring, the pool and the
 // output are lent, and stay parameters; a struct of `&mut`s has to ensure after each step that it holds the same ones yet.
-#[derive(Clone, Copy)]
+#[derive(Clone, Copy, Debug, PartialEq, Eq)]
 pub struct Made {
     pub state: State,
     pub end: usize,
