@@ -1,4 +1,4 @@
-// What every crate needs of octets: numbers of 2, 3 and 4 octets, the lowest octet first, and octets copied to a place.
+// What every crate needs of octets: numbers of a few octets, the lowest octet first, and octets copied to a place.
 // All are total: an octet past the end reads as 0, and one written past the end changes nothing.
 #![tactic(auto)]
 
