@@ -11,7 +11,8 @@ pub const MAX_LENGTH: u8 = 253;
 // Octets before the ASDU, and of a frame without one.
 pub const ASDU_START: usize = 6;
 
-// Send and receive number, each a type of its own, so that they cannot be mixed.
+// Send and receive number. Kept: each a type of its own, as document 01 asks, so that they cannot be mixed; who writes an I frame
+// has the two apart.
 #[derive(Clone, Copy, Debug, PartialEq, Eq)]
 pub struct SendNumber(pub u16);
 
@@ -36,6 +37,7 @@ pub enum Frame {
     U(UFrame),
 }
 
+// Kept: the Rust's names, in place of `From`.
 impl UFrame {
     pub fn from_byte(byte: u8) -> UFrame
         ensures { result ≡ u_of byte }

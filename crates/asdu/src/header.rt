@@ -38,6 +38,8 @@ pub fn cause_listed(cause: u8) -> bool
     matches!(cause, 1..=13 | 20..=41 | 44..=47)
 }
 
+// Kept: a kind and the sequence mark go side by side, as the definitions have them (`step_of`, `needed`, `object_in`).
+
 // From one element to the next: in the plain layout an address stands before each.
 #[tactic(auto, unfolding(crate::specs::Header::step_of))]
 pub fn step_of(kind: Kind, sequence: bool) -> usize
@@ -63,6 +65,7 @@ pub fn needed_len(kind: Kind, sequence: bool, n: u8) -> usize
     6 + body
 }
 
+// Kept beside `check_shape` of asdu_write: it refuses by other rows in another order, and shares one line.
 #[tactic(auto, unfolding(crate::specs::Header::layout_refusal, elements::specs::Refusals::refusal))]
 fn check_layout(kind: Kind, sequence: bool, n: u8, len: usize) -> Result<(), Refusal>
     ensures { result ≡ answer (layout_refusal kind sequence n len) tt }

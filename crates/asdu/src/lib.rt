@@ -15,6 +15,7 @@ use objects::Object;
 pub struct Asdu {
     pub objects: [Object; 127],
     pub count: usize,
+    // Kept a number: a caller's record may have any, and writing answers 11.
     pub type_id: u8,
     pub sequence: bool,
     pub test: bool,

@@ -6,7 +6,7 @@ use apdu::frame::{Frame, ReceiveNumber, SendNumber};
 use apdu::{reading, writing};
 use asdu::Form;
 
-// Above any number of refusal.
+// Above any number of refusal. Kept as numbers, which C sees, and apart from bridge_records: the timed library links nothing else.
 const RESERVED: u32 = 100;
 
 // The address of the object at `place`; beside a refusal that of a blank one, 0. Only the host knows the place, so the

@@ -1,5 +1,5 @@
-// Answers as numbers, which C sees and so are no Result: 0 for what is accepted, or the number of the refusal. Where octets
-// are written it is how many, or a refusal moved up.
+// Answers as numbers: 0 for what is accepted, or the number of the refusal. Where octets are written it is how many, or a refusal
+// moved up. Kept: C sees them.
 ghost use Rattle.std.specs.Prelude.{◌<◌};
 
 use asdu::Form;

@@ -1,5 +1,5 @@
 // Why a call says no: a refusal for each row of document 01's table, by the row's number.
-ghost use Rattle.std.specs.Prelude.{◌≡◌};
+ghost use Rattle.std.specs.Prelude.{◌≡◌, ◌++◌, Some, codes, decimal};
 ghost use Rattle.elements.specs.Refusals.{number};
 
 use std::error::Error;
@@ -51,6 +51,8 @@ impl From<Refusal> for u8 {
 }
 
 impl fmt::Display for Refusal {
+    ghost output = { λ refusal. Some (codes "refused " ++ decimal (number refusal)) };
+
     fn fmt<W: fmt::Write>(&self, f: &mut fmt::Formatter<W>) -> fmt::Result {
         write!(f, "refused {}", u8::from(*self))
     }

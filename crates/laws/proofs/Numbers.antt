@@ -28,6 +28,14 @@ pub le_one : (s : List ℕ) (at : ℕ) → le_of 1 (drop at s) ≡ get_or s at 0
 unfolding le_of
 le_one s at = rw (get_or-drop at s 0 0, add-zero at) (omega arith)
 
+-- a number of one octet more, as it is read and as it is written
+pub le_more : (n : ℕ) (s : List ℕ) (at : ℕ) {a b : ℕ} → a ≡ get_or s at 0 → b ≡ le_of n (drop (at + 1) s) → a + b * 256 ≡ le_of (suc n) (drop at s)
+le_more n s at p q = omega (arith, le_step n s at)
+
+pub put_more : (n : ℕ) (l : List ℕ) (at v : ℕ) → sets (set l at (v % 256)) (at + 1) (le_octets n (v / 256)) ≡ sets l at (le_octets (suc n) v)
+unfolding le_octets
+put_more n l at v = rw add-one
+
 -- a number read from its last octet on: m octets in all, of which those from place i on are read and give b
 module _ (m i : ℕ) (some : 0 < i) (most : i ≤ m) {a b : ℕ} (octet : a < 256) (fits : b < 256 ^ (m - i)) where
   one_more : suc (m - i) ≡ m - (i - 1)

@@ -61,6 +61,7 @@ pub fn le<const N: usize>(s: &[u8], at: usize) -> u32
     n
 }
 
+// Kept: an output and a place, here and in what puts more, since the contracts speak of `sets out at ..`.
 pub fn put_octet(out: &mut [u8], at: usize, v: u8)
     ensures { out.new ≡ set out.old at v }
 {

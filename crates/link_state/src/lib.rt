@@ -54,8 +54,8 @@ pub struct Timers {
     pub tests: u8,
 }
 
-// Whether the link has ended, and the number of the refusal that ended it: 0 for a stop. Kept: a mark and a number, since every
-// event takes a record with any of both.
+// Whether the link has ended, and the number of the refusal that ended it: 0 for a stop. Kept: a mark and a number, which
+// document 01 sets apart, and a caller's record may hold any number.
 #[derive(Clone, Copy, Debug, PartialEq, Eq)]
 pub struct Status {
     pub closed: bool,

@@ -9,7 +9,7 @@ ghost use Rattle.link_steps.specs.Steps.{HandsOut};
 use crate::steps::Made;
 use link_state::State;
 
-// Octets of a slot.
+// Octets of a slot. Kept: the pool is in slots of one size, since the caller lends it and there is no heap.
 const SLOT: usize = 249;
 
 pub fn enqueue(mut s: State, pool: &mut [u8], asdu: &[u8]) -> State

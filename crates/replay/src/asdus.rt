@@ -29,7 +29,8 @@ pub(crate) fn written_is(out: &[u8; 256], len: u32, told: &[u8]) -> bool {
     &out[..(len as usize).min(256)] == told
 }
 
-// Told is what its reading is written as. It is plain exactly if that is what was given.
+// Told is what its reading is written as. It is plain exactly if that is what was given. Kept beside `writes` of frames.rt: one for
+// both would take the two calls and have two callers.
 pub fn writes(given: &[u8], told: &[u8]) -> bool {
     let mut out = [0; 256];
     let len = asdus::gg_asdu_rewrite(given, &mut out);

@@ -1,6 +1,8 @@
 // Lines of the sample: a letter for the kind, octets given, octets told. Of an element or a number there are eight of
 // each. Of an ASDU (`a`, `A`), a frame (`f`, `F`) or a stream (`t`) the line says how many after its letter, in four digits
 // each.
+ghost use Rattle.std.specs.Prelude.{◌≤◌};
+
 use crate::{asdus, frames, octets, streams};
 use std::fmt;
 use std::fmt::Write;
@@ -48,7 +50,9 @@ impl Shape {
     };
 
     // A line that says too much has the shape of the others, and so is not written as it was read.
-    fn of(line: &[u8]) -> Shape {
+    fn of(line: &[u8]) -> Shape
+        ensures { (result.given ≤ 256) × (result.told ≤ 2048) }
+    {
         let Some(b'a' | b'A' | b'f' | b'F' | b't') = line.first() else {
             return Shape::OF_OCTETS;
         };
@@ -65,16 +69,20 @@ impl Shape {
     }
 
     // Where the octets given begin.
-    fn start(self) -> u8 {
+    fn start(self) -> u8
+        ensures { result ≤ 12 }
+    {
         if self.numbered { 12 } else { 2 }
     }
 }
 
 // The length of a line, by its first 12 bytes.
-pub fn length(line: &[u8]) -> usize {
+pub fn length(line: &[u8]) -> usize
+    ensures { result ≤ 4622 }
+{
     let shape = Shape::of(line);
-    let octets = usize::from(shape.given) + usize::from(shape.told);
-    usize::from(shape.start()) + octets * 2 + 2
+    let octets = (shape.given + shape.told) as usize;
+    shape.start() as usize + octets * 2 + 2
 }
 
 // What is left of a line behind the text that was held to it. Other text is not taken.

@@ -17,7 +17,8 @@ use std::io::Read;
 
 const HEAD: usize = 12;
 
-// Reads until the buffer is full or the input ends, and tells how many bytes it holds then, as `read_exact` would not.
+// Reads until the buffer is full or the input ends, and tells how many bytes it holds then, as `read_exact` would not. Kept a
+// `while`: it counts no index.
 fn read_full(input: &mut impl Read, buffer: &mut [u8]) -> io::Result<usize>
     ensures { IfOk result (λ n. n ≤ length buffer.new) }
 {
