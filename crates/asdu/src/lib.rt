@@ -9,7 +9,8 @@ pub mod objects_at;
 use elements::refusals::Refusal;
 use objects::Object;
 
-// The record of an ASDU. What stands in `objects` past `count` is blank when read and ignored when written.
+// The record of an ASDU. What stands in `objects` past `count` is blank when read and ignored when written. Kept: an array and
+// a count, since the library has no heap and writing answers 12 for a count above 127, which a vector of 127 could not hold.
 #[derive(Clone, Copy, Debug, PartialEq, Eq)]
 pub struct Asdu {
     pub objects: [Object; 127],
@@ -23,7 +24,8 @@ pub struct Asdu {
     pub address: u16,
 }
 
-// What reading answers; the record is all 0 and clear beside a refusal.
+// What reading answers; the record is all 0 and clear beside a refusal. Kept: a record and an answer, since document 01 has a
+// record beside a refusal too (`RefusedLeaves`).
 #[derive(Clone, Copy, Debug, PartialEq, Eq)]
 pub struct ReadAsdu {
     pub asdu: Asdu,

@@ -18,6 +18,7 @@ pub struct Place {
     index: u8,
 }
 
+// Kept without `Iterator`: a walk stays at its end or its refusal, and `Walks` speaks of `next` and `after` taken apart.
 #[derive(Clone, Copy)]
 pub struct Walk<'a> {
     asdu: &'a [u8],

@@ -14,6 +14,7 @@ use elements::refusals::Refusal;
 use objects::kinds::Kind;
 use objects::{Object, kinds, values};
 
+// Kept beside `check_layout` of asdu: it refuses by other rows in another order, and shares one line.
 #[tactic(auto, unfolding(asdu::specs::Writing::shape_refusal, elements::specs::Refusals::refusal))]
 fn check_shape(kind: Kind, sequence: bool, n: usize) -> Result<(), Refusal>
     ensures { result ≡ answer (shape_refusal kind sequence n) tt }

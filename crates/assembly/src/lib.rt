@@ -1,7 +1,8 @@
 // Assembling frames from a stream that is cut anywhere (receive_handler.rs, `try_parse_apdu`).
 // A chunk is what came at once; the carry holds the start of a frame whose end has not come, its first `held` bytes.
 // On hand are these and then the chunk.
-// Kept: the public functions take the carry's buffer, its count and the chunk one by one, as README shows them and C has them.
+// Kept: the public functions take the carry's buffer, its count and the chunk one by one. The caller lends the buffer (there is
+// no heap), and a count past its end is answered by 33.
 #![tactic(auto)]
 
 pub mod picking;

@@ -1,4 +1,6 @@
 // IEC 60870-5-101: single and double points with quality, step position, cause of initialisation.
+// Kept: `from_byte` and `to_byte`, and the four marks in each struct, are the Rust's names and fields, so they are no `From` and no
+// struct of their own.
 ghost use Rattle.std.specs.Prelude.{◌≡◌, ◌≤◌};
 ghost use Rattle.elements.specs.Points.{spi_of, spi_bits, siq_of, siq_octet, dpi_of, dpi_bits, diq_of, diq_octet};
 ghost use Rattle.elements.specs.Steps.{step_position, vti_of, vti_answer};

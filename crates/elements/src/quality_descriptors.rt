@@ -1,4 +1,4 @@
-// IEC 60870-5-101: quality descriptor QDS, and the octet that follows a binary counter reading.
+// IEC 60870-5-101: quality descriptor QDS, and the octet that follows a binary counter reading. Kept as information_elements.rs is.
 ghost use Rattle.std.specs.Prelude.{◌≡◌};
 ghost use Rattle.elements.specs.Quality.{qds_of, qds_octet, seq_qd_of, seq_qd_answer};
 

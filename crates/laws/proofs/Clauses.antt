@@ -1,7 +1,7 @@
 -- A row of tests as a row of facts, in both directions. Assumes nothing.
 use Prim.Native.Nat.{ℕ, zero, suc, ◌<◌, ◌≤◌}
 use mathlib.Core.Path.{◌≡◌, refl, sym, subst, ◌∙◌}
-use mathlib.Core.Bool.{Bool, true, false, ◌&&◌, ◌||◌, not, false≢true}
+use mathlib.Core.Bool.{Bool, true, false, ◌&&◌, ◌||◌, false≢true}
 use mathlib.Core.Logic.{◌⊎◌, inl, inr, ◌↔◌, ⊎_elim}
 use native.Mathlib.Omega.{arith}
 use native.Mathlib.Decide.{dec_lt}
@@ -23,11 +23,6 @@ and_iff false b = ((λ e. absurd (false≢true e)), (λ p. p.0))
 pub or_iff : {A B : Type 0} (a b : Bool) → (a ≡ true) ↔ A → (b ≡ true) ↔ B → (a || b ≡ true) ↔ (A ⊎ B)
 or_iff true b f g = ((λ e. inl (f.0 refl)), (λ s. refl))
 or_iff false b f g = ((λ e. inr (g.0 e)), ⊎_elim (λ x. absurd (false≢true (f.1 x))) g.1)
-
--- a test that counts only where a mark is set
-pub set_iff : {B : Type 0} (a b : Bool) → (b ≡ true) ↔ B → (not a || b ≡ true) ↔ (a ≡ true → B)
-set_iff true b g = ((λ e s. g.0 e), (λ h. g.1 (h refl)))
-set_iff false b g = ((λ e s. absurd (false≢true s)), (λ h. refl))
 
 -- a test at each number below n
 pub every_iff : (t : ℕ → Bool) (n : ℕ) → (every t n ≡ true) ↔ ((i : ℕ) → i < n → t i ≡ true)

@@ -1,6 +1,8 @@
 -- Laws of numbers of n octets, for every n, and of two's complement, for every width.
 use Prim.Native.Nat.{ℕ, zero, suc, ◌+◌, ◌*◌, ◌/◌, ◌%◌, ◌^◌, ◌-◌, ◌<◌, ◌≤◌}
-use mathlib.Core.Path.{◌≡◌, refl, ap, ◌∙◌}
+use mathlib.Core.Path.{◌≡◌, refl, sym, ap, ◌∙◌}
+use mir.Syntax.{w32}
+use mir.Val.{Fits}
 use mathlib.Core.Bool.{Bool, true, false}
 use mathlib.Core.List.{List, [], ◌∷◌}
 use native.Mathlib.Omega.{arith}
@@ -26,31 +28,37 @@ pub le_one : (s : List ℕ) (at : ℕ) → le_of 1 (drop at s) ≡ get_or s at 0
 unfolding le_of
 le_one s at = rw (get_or-drop at s 0 0, add-zero at) (omega arith)
 
--- the octet in front of what is read so far, as the code reads a number from its last octet on: what it then is, and that it fits
-module _ (m i : ℕ) (some : 1 ≤ i) (most : i ≤ m) where
+-- a number read from its last octet on: m octets in all, of which those from place i on are read and give b
+module _ (m i : ℕ) (some : 0 < i) (most : i ≤ m) {a b : ℕ} (octet : a < 256) (fits : b < 256 ^ (m - i)) where
   one_more : suc (m - i) ≡ m - (i - 1)
   one_more = omega arith
 
-  pub le_turn : (s : List ℕ) {a b : ℕ} → a ≡ get_or s (i - 1) 0 → b ≡ le_of (m - i) (drop i s) → b * 256 + a ≡ le_of (m - (i - 1)) (drop (i - 1) s)
+  -- the octet before them, and that what it gives fits
+  pub le_turn : (s : List ℕ) → a ≡ get_or s (i - 1) 0 → b ≡ le_of (m - i) (drop i s)
+      → (b * 256 + a ≡ le_of (m - (i - 1)) (drop (i - 1) s)) × (b * 256 + a < 256 ^ (m - (i - 1)))
   le_turn s p q =
       let e : i - 1 + 1 ≡ i = omega arith in
-      rw (← one_more) (omega (arith, le_step (m - i) s (i - 1), ap (λ (j : ℕ). le_of (m - i) (drop j s)) e))
+      let here = ap (λ (j : ℕ). le_of (m - i) (drop j s)) e in
+      rw (← one_more) (omega (arith, le_step (m - i) s (i - 1), here), omega (arith, pow-suc 256 (m - i)))
 
-  pub le_turn_fits : {a b : ℕ} → a < 256 → b < 256 ^ (m - i) → b * 256 + a < 256 ^ (m - (i - 1))
-  le_turn_fits h g = rw (← one_more) (omega (arith, pow-suc 256 (m - i)))
+  pub four_fit : m ≤ 4 → Fits w32 (b * 256 + a)
+  four_fit four = record { fits = by (m - i) (omega arith) fits }
+    where
+      by : (k : ℕ) → k ≤ 3 → b < 256 ^ k → b * 256 + a < 4294967296
+      by zero h g = omega arith
+      by (suc zero) h g = omega arith
+      by (suc (suc zero)) h g = omega arith
+      by (suc (suc (suc zero))) h g = omega arith
+      by (suc (suc (suc (suc k)))) h g = absurd (omega arith)
 
--- four octets fit 32 bits
-pub four_fit : (k : ℕ) {a b : ℕ} → k ≤ 3 → a < 256 → b < 256 ^ k → b * 256 + a < 4294967296
-four_fit zero h f g = omega arith
-four_fit (suc zero) h f g = omega arith
-four_fit (suc (suc zero)) h f g = omega arith
-four_fit (suc (suc (suc zero))) h f g = omega arith
-four_fit (suc (suc (suc (suc k)))) h f g = absurd (omega arith)
-
--- a number of one octet more, as the code writes it
-pub put_more : (n : ℕ) (l : List ℕ) (at v : ℕ) → sets (set l at (v % 256)) (at + 1) (le_octets n (v / 256)) ≡ sets l at (le_octets (suc n) v)
+-- a number of m octets written from its first octet on: the octets before place i are written, and v is left
+pub put_turn : (m i : ℕ) → i < m → (l : List ℕ) (v : ℕ) {k vs : List ℕ} {a : ℕ}
+    → k ≡ set l i a → a ≡ v % 256 → sets l i (le_octets (m - i) v) ≡ vs → sets k (i + 1) (le_octets (m - (i + 1)) (v / 256)) ≡ vs
 unfolding le_octets
-put_more n l at v = rw add-one
+put_turn m i h l v p q r =
+    let e : m - i ≡ suc (m - suc i) = omega arith in
+    let t = ap (λ (n : ℕ). sets l i (le_octets n v)) e in
+    rw (p, q, add-one i) (sym t ∙ r)
 
 pub reads_back : NumberReadsBack
 unfolding le_of le_octets

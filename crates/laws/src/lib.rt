@@ -1,4 +1,4 @@
-// What every crate needs of octets: numbers of 2, 3 and 4 octets, the lowest octet first, and octets copied to a place.
+// What every crate needs of octets: numbers of a few octets, the lowest octet first, and octets copied to a place.
 // All are total: an octet past the end reads as 0, and one written past the end changes nothing.
 #![tactic(auto)]
 
@@ -44,10 +44,11 @@ pub fn octet_at(s: &[u8], at: usize) -> u8
 pub fn part_from(s: &[u8], at: usize) -> &[u8]
     ensures { result.now ≡ drop at s.now }
 {
-    s.get(at..).unwrap_or(&[])
+    &s[at.min(s.len())..]
 }
 
 // The number in N octets, the lowest octet first; of more than four, in the first four.
+#[tactic(auto, unfolding(crate::specs::Numbers::le_of))]
 pub fn le<const N: usize>(s: &[u8], at: usize) -> u32
     ensures value { result ≡ le_of (min N 4) (drop at s.now) }
     ensures upper_bound { result < 256 ^ min N 4 }
@@ -69,6 +70,7 @@ pub fn put_octet(out: &mut [u8], at: usize, v: u8)
 }
 
 // The N lowest octets of a number, the lowest first.
+#[tactic(auto, using(crate::proofs::Lists::sets_past, crate::proofs::Lists::rest_sets), unfolding(crate::specs::Numbers::le_octets))]
 pub fn put_le<const N: usize>(out: &mut [u8], at: usize, n: u32)
     ensures { out.new ≡ sets out.old at (le_octets N n) }
 {
@@ -83,6 +85,7 @@ pub fn put_le<const N: usize>(out: &mut [u8], at: usize, n: u32)
 }
 
 // Octets in a row, as far as the output reaches.
+#[tactic(auto, using(crate::proofs::Lists::sets_past, crate::proofs::Lists::sets_within))]
 pub fn put_octets(out: &mut [u8], at: usize, octets: &[u8])
     ensures { out.new ≡ sets out.old at octets.now }
 {

@@ -10,6 +10,7 @@ pub struct Done {
     pub came: bool,
 }
 
+// Kept: a link and an answer, since a refused call gives its link back too (`LinkCall`).
 #[derive(Clone, Copy, Debug, PartialEq, Eq)]
 pub struct Called {
     pub link: Link,

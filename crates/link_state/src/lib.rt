@@ -27,7 +27,8 @@ pub struct Window {
     pub next: SendNumber,
 }
 
-// ASDUs that wait: how many, the slot of the first, and at each slot the length of its ASDU.
+// ASDUs that wait: how many, the slot of the first, and at each slot the length of its ASDU. Kept: an array with a place and a
+// count, since the library has no heap and every event takes a record with any of them, to answer 19.
 #[derive(Clone, Copy, Debug, PartialEq, Eq)]
 pub struct Queue {
     pub lengths: [usize; 16],
@@ -51,7 +52,8 @@ pub struct Timers {
     pub tests: u8,
 }
 
-// Whether the link has ended, and the number of the refusal that ended it: 0 for a stop.
+// Whether the link has ended, and the number of the refusal that ended it: 0 for a stop. Kept: a mark and a number, since every
+// event takes a record with any of both.
 #[derive(Clone, Copy, Debug, PartialEq, Eq)]
 pub struct Status {
     pub closed: bool,

@@ -6,7 +6,8 @@ use crate::{Link, Queue, Receive, Settings, State, Status, Timers, Window, limit
 use apdu::frame::{ReceiveNumber, SendNumber};
 use elements::refusals::Refusal;
 
-// What opening answers; beside a refusal the link is all 0, clear and unset.
+// What opening answers; beside a refusal the link is all 0, clear and unset. Kept: a link and an answer, since document 01 has a
+// link beside a refusal too (`RefusedLeaves`).
 #[derive(Clone, Copy, Debug, PartialEq, Eq)]
 pub struct OpenedLink {
     pub link: Link,
