@@ -152,11 +152,7 @@ pub fn put_element(out: &mut [u8], value: Value)
         Value::MMeNa1(n, qds) => put_i16_and_quality(out, n, qds),
         Value::MMeNb1(n, qds) => put_i16_and_quality(out, n, qds),
         Value::MMeNc1(qds, bits) => put_bits_and_octet(out, bits, qds.to_byte()),
-        Value::MItNa1(n, sqd) => put_bits_and_octet(
-            out,
-            n.to_bits(),
-            sqd.to_byte().unwrap_or(0),
-        ),
+        Value::MItNa1(n, sqd) => put_bits_and_octet(out, n.to_bits(), sqd.to_byte().unwrap_or(0)),
         Value::MMeNd1(n) => laws::put_le::<2>(out, 0, n.to_bits() as u32),
         Value::MEiNa1(coi) => laws::put_octet(out, 0, coi.to_byte().unwrap_or(0)),
         Value::CIcNa1(n) => laws::put_octet(out, 0, n),
