@@ -159,41 +159,34 @@ module _ (s : State) (got : ℕ) (ts ps out : List ℕ) (more : Bool) (now : ℕ
 
 -- ---- U frames
 
-module _ (u : UFrame) (s : State) (ts ps out : List ℕ) (more : Bool) (now : ℕ) {octet : ℕ} (is : octet ≡ u_octet u) where
-  is_octet : (k : ℕ) → octet ≡ k → eqb (u_octet u) k ≡ true
-  is_octet k e = eq-eqb (u_octet u) k (sym is ∙ e)
-
-  not_octet : (k : ℕ) → (octet ≡ k → ⊥) → eqb (u_octet u) k ≡ false
-  not_octet k e = ne_eqb (u_octet u) k (λ h. e (is ∙ h))
-
-  pub u_test_act : {r : Step} {out₁ : List ℕ} → octet ≡ test_act → Answers (test_acted s ts ps more now) out r out₁ → Answers (on_u u s ts ps more now) out r out₁
+module _ (u : UFrame) (s : State) (ts ps out : List ℕ) (more : Bool) (now : ℕ) {r : Step} {out₁ : List ℕ} where
+  pub u_test_act : u_octet u ≡ test_act → Answers (test_acted s ts ps more now) out r out₁ → Answers (on_u u s ts ps more now) out r out₁
   unfolding on_u
-  u_test_act e h = rw (is_octet test_act e) h
+  u_test_act e h = rw e h
 
-  pub u_test_con : {r : Step} {out₁ : List ℕ} → (octet ≡ test_act → ⊥) → octet ≡ test_con → Answers (test_confirmed s ts ps more now) out r out₁ → Answers (on_u u s ts ps more now) out r out₁
+  pub u_test_con : u_octet u ≡ test_con → Answers (test_confirmed s ts ps more now) out r out₁ → Answers (on_u u s ts ps more now) out r out₁
   unfolding on_u
-  u_test_con n e h = rw (not_octet test_act n, is_octet test_con e) h
+  u_test_con e h = rw e h
 
-  pub u_stop_act : {r : Step} {out₁ : List ℕ} → (octet ≡ test_act → ⊥) → (octet ≡ test_con → ⊥) → octet ≡ stop_act → out₁ ≡ sets out 0 (start_octets 4 stop_con 0)
-      → r ≡ done_step (stopped now s) 6 false → Answers (on_u u s ts ps more now) out r out₁
+  pub u_stop_act : u_octet u ≡ stop_act → out₁ ≡ sets out 0 (start_octets 4 stop_con 0) → r ≡ done_step (stopped now s) 6 false
+      → Answers (on_u u s ts ps more now) out r out₁
   unfolding on_u
-  u_stop_act n₁ n₂ e stored done =
+  u_stop_act e stored done =
       let one = makes_u stop_con s ts 0 out refl stored in
       let two = makes_become (stopped now) {r = made_of (stopped now s) 6} one refl in
-      rw (not_octet test_act n₁, not_octet test_con n₂, is_octet stop_act e) (answers_accepting false ps two done)
+      rw e (answers_accepting false ps two done)
 
-  pub u_stop_con : {r : Step} {out₁ : List ℕ} → (octet ≡ test_act → ⊥) → (octet ≡ test_con → ⊥) → (octet ≡ stop_act → ⊥) → octet ≡ stop_con
-      → out₁ ≡ out → r ≡ done_step (stopped now s) 0 false → Answers (on_u u s ts ps more now) out r out₁
+  pub u_stop_con : u_octet u ≡ stop_con → out₁ ≡ out → r ≡ done_step (stopped now s) 0 false → Answers (on_u u s ts ps more now) out r out₁
   unfolding on_u
-  u_stop_con n₁ n₂ n₃ e same done =
+  u_stop_con e same done =
       let one = makes_become (stopped now) {r = made_of (stopped now s) 0} (makes_none s ts 0 out) refl in
-      rw (same, not_octet test_act n₁, not_octet test_con n₂, not_octet stop_act n₃, is_octet stop_con e) (answers_accepting false ps one done)
+      rw (same, e) (answers_accepting false ps one done)
 
-  pub u_other : {r : Step} {out₁ : List ℕ} → (octet ≡ test_act → ⊥) → (octet ≡ test_con → ⊥) → (octet ≡ stop_act → ⊥) → (octet ≡ stop_con → ⊥)
+  pub u_other : (u_octet u ≡ test_act → ⊥) → (u_octet u ≡ test_con → ⊥) → (u_octet u ≡ stop_act → ⊥) → (u_octet u ≡ stop_con → ⊥)
       → out₁ ≡ out → r ≡ refused_step (shut (number UNotAnswered) s) UNotAnswered → Answers (on_u u s ts ps more now) out r out₁
   unfolding on_u
   u_other n₁ n₂ n₃ n₄ same closed =
-      rw (same, not_octet test_act n₁, not_octet test_con n₂, not_octet stop_act n₃, not_octet stop_con n₄) (answers_closing UNotAnswered s ts ps out closed)
+      rw (same, ne_eqb _ _ n₁, ne_eqb _ _ n₂, ne_eqb _ _ n₃, ne_eqb _ _ n₄) (answers_closing UNotAnswered s ts ps out closed)
 
 -- ---- the reading
 

@@ -135,20 +135,13 @@ fn on_u(s: State, out: &mut [u8], u: UFrame, more: bool, moment: u64) -> Step
     requires { Calm s (length out.old) moment }
     ensures { (ts ps : List ℕ) → Answers (on_u u s ts ps more moment) out.old result out.new }
 {
-    let octet = u.to_byte() as u16;
-    if octet == steps::TEST_ACT {
-        return on_test_act(s, out, more, moment);
+    match u16::from(u.to_byte()) {
+        steps::TEST_ACT => on_test_act(s, out, more, moment),
+        steps::TEST_CON => on_test_con(s, out, more, moment),
+        steps::STOP_ACT => end_by_stop(Made::new(s).put_u(out, steps::STOP_CON), moment),
+        steps::STOP_CON => end_by_stop(Made::new(s), moment),
+        _ => steps::close(s, Refusal::UNotAnswered),
     }
-    if octet == steps::TEST_CON {
-        return on_test_con(s, out, more, moment);
-    }
-    if octet == steps::STOP_ACT {
-        return end_by_stop(Made::new(s).put_u(out, steps::STOP_CON), moment);
-    }
-    if octet == steps::STOP_CON {
-        return end_by_stop(Made::new(s), moment);
-    }
-    steps::close(s, Refusal::UNotAnswered)
 }
 
 fn on_frame(

@@ -20,6 +20,8 @@ pub struct Settings {
 }
 
 // I frames handed out and not confirmed yet: how many, the ring place of the oldest's send time, the next number.
+// Kept: a first place and a count of a ring that stands in the link, as for the queue; a step is lent the ring while the state
+// changes.
 #[derive(Clone, Copy, Debug, PartialEq, Eq)]
 pub struct Window {
     pub first: usize,

@@ -1,28 +1,37 @@
-use mathlib.Core.Path.{refl}
+use mathlib.Core.Path.{refl, sym, ◌∙◌}
+use native.Mathlib.Omega.{arith}
 use Rattle.link_receive.proofs.Incoming.{u_test_act, u_test_con, u_stop_act, u_stop_con, u_other}
 use Rattle.link_receive.proofs.on_u.Goals as goal
 
-pub returns-then-octet-eq-TEST_ACT : goal.returns-then-octet-eq-TEST_ACT
-returns-then-octet-eq-TEST_ACT c =
+pub returns-in-67 : goal.returns-in-67
+returns-in-67 c =
     let a = c.args in
-    λ ts ps. u_test_act a.u a.s ts ps a.out.now a.more a.moment c.to_byte-octet.ensures c.if-octet-eq-TEST_ACT.true (c.on_test_act.ensures ts ps)
+    let is = sym c.to_byte.ensures ∙ (sym c.from.ensures ∙ c.in-67.is) in
+    λ ts ps. u_test_act a.u a.s ts ps a.out.now a.more a.moment is (c.on_test_act.ensures ts ps)
 
-pub returns-then-octet-eq-TEST_CON : goal.returns-then-octet-eq-TEST_CON
-returns-then-octet-eq-TEST_CON c =
+pub returns-in-131 : goal.returns-in-131
+returns-in-131 c =
     let a = c.args in
-    λ ts ps. u_test_con a.u a.s ts ps a.out.now a.more a.moment c.to_byte-octet.ensures c.if-octet-eq-TEST_ACT.false c.if-octet-eq-TEST_CON.true (c.on_test_con.ensures ts ps)
+    let is = sym c.to_byte.ensures ∙ (sym c.from.ensures ∙ c.in-131.is) in
+    λ ts ps. u_test_con a.u a.s ts ps a.out.now a.more a.moment is (c.on_test_con.ensures ts ps)
 
-pub returns-then-octet-eq-STOP_ACT : goal.returns-then-octet-eq-STOP_ACT
-returns-then-octet-eq-STOP_ACT c =
+pub returns-in-19 : goal.returns-in-19
+returns-in-19 c =
     let a = c.args in
-    λ ts ps. u_stop_act a.u a.s ts ps a.out.now a.more a.moment c.to_byte-octet.ensures c.if-octet-eq-TEST_ACT.false c.if-octet-eq-TEST_CON.false c.if-octet-eq-STOP_ACT.true (rw c.new.ensures at c.put_u.ensures.out_after) (rw (c.put_u.ensures.value, c.new.ensures) at c.end_by_stop.ensures)
+    let is = sym c.to_byte.ensures ∙ (sym c.from.ensures ∙ c.in-19.is) in
+    λ ts ps.
+    u_stop_act a.u a.s ts ps a.out.now a.more a.moment is (rw c.new.ensures at c.put_u.ensures.out_after) (rw (c.put_u.ensures.value, c.new.ensures) at c.end_by_stop.ensures)
 
-pub returns-then-octet-eq-STOP_CON : goal.returns-then-octet-eq-STOP_CON
-returns-then-octet-eq-STOP_CON c =
+pub returns-in-35 : goal.returns-in-35
+returns-in-35 c =
     let a = c.args in
-    λ ts ps. u_stop_con a.u a.s ts ps a.out.now a.more a.moment c.to_byte-octet.ensures c.if-octet-eq-TEST_ACT.false c.if-octet-eq-TEST_CON.false c.if-octet-eq-STOP_ACT.false c.if-octet-eq-STOP_CON.true refl (rw c.new-then-octet-eq-STOP_CON.ensures at c.end_by_stop-then-octet-eq-STOP_CON.ensures)
+    let is = sym c.to_byte.ensures ∙ (sym c.from.ensures ∙ c.in-35.is) in
+    λ ts ps. u_stop_con a.u a.s ts ps a.out.now a.more a.moment is refl (rw c.new-in-35.ensures at c.end_by_stop-in-35.ensures)
 
-pub returns : goal.returns
-returns c =
+pub returns-in_default : goal.returns-in_default
+returns-in_default c =
     let a = c.args in
-    λ ts ps. u_other a.u a.s ts ps a.out.now a.more a.moment c.to_byte-octet.ensures c.if-octet-eq-TEST_ACT.false c.if-octet-eq-TEST_CON.false c.if-octet-eq-STOP_ACT.false c.if-octet-eq-STOP_CON.false refl c.close.ensures
+    let byte = c.to_byte.ensures in
+    let octet = c.from.ensures in
+    λ ts ps.
+    u_other a.u a.s ts ps a.out.now a.more a.moment (λ e. omega arith) (λ e. omega arith) (λ e. omega arith) (λ e. omega arith) refl c.close.ensures
