@@ -30,6 +30,12 @@ fn settings_of(k: u64, w: u64, p: u64, times: [u64; 3]) -> Settings {
     }
 }
 
+// Octets, and just so many numbers behind them.
+fn take<'a, const N: usize>(given: &str, room: &'a mut [u8]) -> Option<(&'a [u8], [u64; N])> {
+    let (digits, rest) = given.split_once(' ')?;
+    Some((octets::take(digits, room)?, numbers::take(rest)?))
+}
+
 impl Station {
     pub fn new() -> Station {
         Station {
@@ -51,10 +57,8 @@ impl Station {
     // Octets, the mark "more to come" and a moment.
     pub fn receive(&mut self, rt: &impl Print, given: &str) -> Result<(), Wrong> {
         let link = self.link.ok_or(Wrong::Bad)?;
-        let (digits, rest) = given.split_once(' ').ok_or(Wrong::Bad)?;
         let mut room = [0; OCTETS_SIZE];
-        let frame = octets::take(digits, &mut room).ok_or(Wrong::Bad)?;
-        let [more, now] = numbers::take::<2>(rest).ok_or(Wrong::Bad)?;
+        let (frame, [more, now]) = take::<2>(given, &mut room).ok_or(Wrong::Bad)?;
         if more > 1 {
             return Err(Wrong::Bad);
         }
@@ -66,10 +70,8 @@ impl Station {
     // Octets and a moment.
     pub fn send(&mut self, rt: &impl Print, given: &str) -> Result<(), Wrong> {
         let link = self.link.ok_or(Wrong::Bad)?;
-        let (digits, rest) = given.split_once(' ').ok_or(Wrong::Bad)?;
         let mut room = [0; OCTETS_SIZE];
-        let asdu = octets::take(digits, &mut room).ok_or(Wrong::Bad)?;
-        let [now] = numbers::take::<1>(rest).ok_or(Wrong::Bad)?;
+        let (asdu, [now]) = take::<1>(given, &mut room).ok_or(Wrong::Bad)?;
         let mut out = [0; MIN_OUTPUT];
         let called = link_send::send(link, &mut self.pool, &mut out, asdu, now);
         self.tell(rt, called, &out)

@@ -20,6 +20,7 @@ fn take<'a>(
     Some((held, octets::take(second, room)?))
 }
 
+// This and the next stand apart, so that the search sees how long the carry's room is.
 fn topped(carry: &mut [u8; OCTETS_SIZE], held: usize, chunk: &[u8]) -> Result<usize, Refusal> {
     topping::top_up(&mut carry[..CARRY_SIZE], held, chunk)
 }
