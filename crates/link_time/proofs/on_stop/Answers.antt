@@ -1,6 +1,7 @@
-use mathlib.Core.Path.{◌≡◌}
+use mathlib.Core.Path.{◌≡◌, ap}
 use mathlib.Core.Bool.{false}
 use native.Mathlib.Omega.{arith}
+use Rattle.link_steps.specs.declared.steps.Made.{Made}
 use Rattle.link_steps.specs.Steps.{made_of}
 use Rattle.link.specs.Frames.{stop_act}
 use Rattle.link.specs.Making.{confirmed_of, set_t1u}
@@ -21,11 +22,15 @@ unfolding confirmed_of
 finish-requires c =
     let said : c.put_u.result ≡ made_of c.args.s 6 = rw c.new.ensures at c.put_u.ensures.value in
     let sure : c.confirm-said.result ≡ made_of (confirmed_of c.args.s) 12 = rw said at c.confirm-said.ensures.value in
-    let timed : c.set_t1u-timed.result ≡ made_of (set_t1u c.args.moment (confirmed_of c.args.s)) 12 = rw sure at c.set_t1u-timed.ensures in
+    let end = ap (λ (m : Made). m.end) sure in
+    let next = ap (λ (m : Made). m.state.receive.next.0) sure in
+    let end-timed = ap (λ (m : Made). m.end) c.set_t1u-timed.ensures in
+    let next-timed = ap (λ (m : Made). m.state.receive.next.0) c.set_t1u-timed.ensures in
     let room = c.requires.out_room in
+    let high = c.requires.recv_high in
     let long = c.confirm-said.auto.out in
     let before = c.put_u.auto.out in
-    rw timed (omega arith, c.requires.recv_high)
+    (omega arith, omega arith)
 
 pub returns : goal.returns
 unfolding on_stop
