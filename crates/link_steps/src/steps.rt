@@ -157,6 +157,7 @@ impl Made {
         }
     }
 
+    // Kept as three, with `set_t3` and `start_t2`: a line or two each, on other fields.
     pub fn set_t1u(mut self, moment: u64) -> Made
         requires { Timed self.state moment }
         ensures { result ≡ made_of (set_t1u moment self.state) self.end }
