@@ -3,10 +3,11 @@
 
 ghost use Rattle.std.specs.Prelude.{◌≡◌};
 ghost use Rattle.asdu.specs.Records.{blanks, asdu_of, no_asdu};
-ghost use Rattle.asdu.specs.Reading.{read_asdu};
+ghost use Rattle.asdu.specs.Reading.{answer_at, read_asdu};
 
 use asdu::header::Header;
-use asdu::{Asdu, ReadAsdu, checking, objects_at};
+use asdu::{Asdu, ReadAsdu, checking, header, objects_at};
+use elements::refusals::Refusal;
 use objects::Object;
 
 #[tactic(auto, unfolding(asdu::specs::Records::blanks, laws::specs::Lists::padded))]
@@ -35,6 +36,15 @@ fn no_record() -> Asdu
     }
 }
 
+// Object i where its address fits three octets, else its refusal.
+#[tactic(auto, unfolding(asdu::specs::Reading::answer_at))]
+fn object_answer(s: &[u8], h: Header, i: u8) -> Result<Object, Refusal>
+    ensures { result ≡ answer_at h s.now i }
+{
+    let object = objects_at::object_in(s, h.kind, h.sequence, i);
+    objects::object_at(object.address, object.value)
+}
+
 fn with_objects(h: Header) -> Asdu
     ensures { result ≡ asdu_of h blanks }
 {
@@ -55,16 +65,18 @@ fn with_objects(h: Header) -> Asdu
 
 // The record alone, for a caller that has checked the octets: where reading refuses them, it is all 0 and clear.
 // It is filled where it was made, and copied once, to the caller.
-#[tactic(auto, unfolding(asdu::specs::Reading::read_asdu))]
 pub fn read_record(s: &[u8]) -> Asdu
     ensures { result ≡ (read_asdu s.now).asdu }
 {
-    let Ok(h) = checking::checked_header(s) else {
+    let Ok(h) = header::read_header(s) else {
         return no_record();
     };
     let mut asdu = with_objects(h);
     for i in 0..h.count {
-        asdu.objects[i] = objects_at::object_in(s, h.kind, h.sequence, i as u8);
+        let Ok(object) = object_answer(s, h, i as u8) else {
+            return no_record();
+        };
+        asdu.objects[i] = object;
     }
     asdu
 }
