@@ -1,5 +1,5 @@
 -- Why a call says no: the rows of document 01's table. A refusal has its row's number; 0 is no refusal.
-use Rattle.std.specs.Prelude.{ℕ, ◌-◌, List, [], ◌∷◌, get_or, eqb, Result, Ok, Err}
+use Rattle.std.specs.Prelude.{ℕ, ◌-◌, List, [], ◌∷◌, get_or, eqb, Option, Some, None, Result, Ok, Err}
 use Rattle.std.specs.Result.{result_unwrap_or}
 use Rattle.laws.specs.Choice.{pick}
 use Rattle.elements.specs.declared.refusals.Refusal.{Refusal}
@@ -52,6 +52,15 @@ refusals =
 
 unfoldable pub refusal : ℕ → Refusal
 refusal n = get_or refusals (n - 1) BadCarry
+
+-- the refusal of the list that has this number, if there is one
+abbrev pub among : List Refusal → ℕ → Option Refusal
+among [] n = None
+among (r ∷ rs) n = pick (eqb n (number r)) (Some r) (among rs n)
+
+-- the refusal whose number is n: there is one for n from 1 to 33, and for no other
+abbrev pub refusal_of : ℕ → Option Refusal
+refusal_of n = among refusals n
 
 -- what a call answers: what it made where the refusal's number is 0, else the refusal
 abbrev pub answer : {A : Type 0} → ℕ → A → Result A Refusal

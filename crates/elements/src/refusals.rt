@@ -1,6 +1,7 @@
 // Why a call says no: a refusal for each row of document 01's table, by the row's number.
 ghost use Rattle.std.specs.Prelude.{◌≡◌, ◌++◌, Some, codes, decimal};
-ghost use Rattle.elements.specs.Refusals.{number};
+ghost use Rattle.std.specs.Option.{ok_or};
+ghost use Rattle.elements.specs.Refusals.{number, refusal_of};
 
 use std::error::Error;
 use std::fmt;
@@ -47,6 +48,52 @@ impl From<Refusal> for u8 {
 
     fn from(refusal: Refusal) -> u8 {
         refusal as u8
+    }
+}
+
+// The refusal with a number, as a log or a link's record keeps it; a number that no row has comes back.
+impl TryFrom<u8> for Refusal {
+    type Error = u8;
+
+    ghost try_from_gives = { λ n answer. answer ≡ ok_or (refusal_of n) n };
+
+    fn try_from(number: u8) -> Result<Refusal, u8> {
+        match number {
+            1 => Ok(Refusal::FrameTooShort),
+            2 => Ok(Refusal::WrongStart),
+            3 => Ok(Refusal::FrameTooLong),
+            4 => Ok(Refusal::LengthMismatch),
+            5 => Ok(Refusal::IWithoutAsdu),
+            6 => Ok(Refusal::BadUControl),
+            7 => Ok(Refusal::BadSControl),
+            8 => Ok(Refusal::BadIControl),
+            9 => Ok(Refusal::AsduTooShort),
+            10 => Ok(Refusal::CauseNotListed),
+            11 => Ok(Refusal::TypeNotCarried),
+            12 => Ok(Refusal::LayoutMismatch),
+            13 => Ok(Refusal::EmptySequence),
+            14 => Ok(Refusal::WrongAddress),
+            15 => Ok(Refusal::ValueOutOfRange),
+            16 => Ok(Refusal::WrongKind),
+            17 => Ok(Refusal::AsduTooLong),
+            18 => Ok(Refusal::OutputTooShort),
+            19 => Ok(Refusal::OutsideLimits),
+            20 => Ok(Refusal::LinkClosed),
+            21 => Ok(Refusal::ClockWentBack),
+            22 => Ok(Refusal::ClockTooLate),
+            23 => Ok(Refusal::LinkOutputTooShort),
+            24 => Ok(Refusal::PoolTooShort),
+            25 => Ok(Refusal::QueueFull),
+            26 => Ok(Refusal::NotPlainForm),
+            27 => Ok(Refusal::WrongReceiveNumber),
+            28 => Ok(Refusal::WrongSendNumber),
+            29 => Ok(Refusal::UNotAnswered),
+            30 => Ok(Refusal::UTimedOut),
+            31 => Ok(Refusal::ITimedOut),
+            32 => Ok(Refusal::TooManyTests),
+            33 => Ok(Refusal::BadCarry),
+            _ => Err(number),
+        }
     }
 }
 

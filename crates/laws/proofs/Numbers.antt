@@ -1,6 +1,6 @@
 -- Laws of numbers of n octets, for every n, and of two's complement, for every width.
 use Prim.Native.Nat.{ℕ, zero, suc, ◌+◌, ◌*◌, ◌/◌, ◌%◌, ◌^◌, ◌-◌, ◌<◌, ◌≤◌}
-use mathlib.Core.Path.{◌≡◌, refl, sym, ap, ◌∙◌}
+use mathlib.Core.Path.{◌≡◌, refl, ap, ◌∙◌}
 use mir.Syntax.{w32}
 use mir.Val.{Fits}
 use mathlib.Core.Bool.{Bool, true, false}
@@ -45,9 +45,9 @@ module _ (m i : ℕ) (some : 0 < i) (most : i ≤ m) {a b : ℕ} (octet : a < 25
   pub le_turn : (s : List ℕ) → a ≡ get_or s (i - 1) 0 → b ≡ le_of (m - i) (drop i s)
       → (b * 256 + a ≡ le_of (m - (i - 1)) (drop (i - 1) s)) × (b * 256 + a < 256 ^ (m - (i - 1)))
   le_turn s p q =
-      let e : i - 1 + 1 ≡ i = omega arith in
-      let here = ap (λ (j : ℕ). le_of (m - i) (drop j s)) e in
-      rw (← one_more) (omega (arith, le_step (m - i) s (i - 1), here), omega (arith, pow-suc 256 (m - i)))
+      let e : i ≡ i - 1 + 1 = omega arith in
+      let here = q ∙ ap (λ (j : ℕ). le_of (m - i) (drop j s)) e in
+      rw (← one_more) (omega (arith, le_more (m - i) s (i - 1) p here), omega (arith, pow-suc 256 (m - i)))
 
   pub four_fit : m ≤ 4 → Fits w32 (b * 256 + a)
   four_fit four = record { fits = by (m - i) (omega arith) fits }
@@ -62,11 +62,9 @@ module _ (m i : ℕ) (some : 0 < i) (most : i ≤ m) {a b : ℕ} (octet : a < 25
 -- a number of m octets written from its first octet on: the octets before place i are written, and v is left
 pub put_turn : (m i : ℕ) → i < m → (l : List ℕ) (v : ℕ) {k vs : List ℕ} {a : ℕ}
     → k ≡ set l i a → a ≡ v % 256 → sets l i (le_octets (m - i) v) ≡ vs → sets k (i + 1) (le_octets (m - (i + 1)) (v / 256)) ≡ vs
-unfolding le_octets
 put_turn m i h l v p q r =
-    let e : m - i ≡ suc (m - suc i) = omega arith in
-    let t = ap (λ (n : ℕ). sets l i (le_octets n v)) e in
-    rw (p, q, add-one i) (sym t ∙ r)
+    let e : suc (m - (i + 1)) ≡ m - i = omega arith in
+    rw (p, q) (put_more (m - (i + 1)) l i v ∙ ap (λ (n : ℕ). sets l i (le_octets n v)) e ∙ r)
 
 pub reads_back : NumberReadsBack
 unfolding le_of le_octets
