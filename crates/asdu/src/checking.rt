@@ -42,7 +42,8 @@ pub fn check_asdu(s: &[u8]) -> Result<(), Refusal>
     check_addresses(s, size / 128 % 2 == 1, (size % 128) as usize)
 }
 
-// The header, where nothing is refused of it and of the objects.
+// The header, where nothing is refused of it and of the objects. Inline, as `read_header` is.
+#[inline(always)]
 #[tactic(auto, unfolding(crate::specs::Header::header_answer, crate::specs::Reading::read_refusal, crate::specs::Reading::checked_header))]
 pub fn checked_header(s: &[u8]) -> Result<Header, Refusal>
     ensures value { result ≡ checked_header s.now }

@@ -129,7 +129,9 @@ pub fn check_header(s: &[u8]) -> Result<(), Refusal>
     check_layout(kind, size / 128 % 2 == 1, size % 128, s.len())
 }
 
-// The refusal first and the fields after it: so a caller that asks for no field pays for none (decision 39).
+// The refusal first and the fields after it: so a caller that asks for no field pays for none (decision 39). Inline, since that
+// holds only where the header is not handed over in memory.
+#[inline(always)]
 #[tactic(auto, unfolding(crate::specs::Header::header_answer))]
 pub fn read_header(s: &[u8]) -> Result<Header, Refusal>
     ensures value { result ≡ header_answer s.now }
