@@ -2,6 +2,9 @@
 // (bridge_cells). Each function answers document 01's number of refusal, 0 for none.
 #![tactic(auto)]
 
+#[cfg(test)]
+mod tests;
+
 use bridge_cells::{called, cells};
 use link::answers::Done;
 use link_state::opening;
