@@ -1,7 +1,16 @@
 // A link as a list of numbers: the ring of send times, the lengths of what waits, and then a number for each field, in the
 // order of the records of `link_state`. What a list has no room for is not put, and a number past its end is taken as 0.
+ghost use Rattle.std.specs.Prelude.{◌≡◌, set};
+
 use apdu::frame::{ReceiveNumber, SendNumber};
 use link_state::{Link, Queue, Receive, Settings, State, Status, Timers, Window};
+
+// The cells of the times at which t1 of U frames, t2 and t3 are due.
+pub const T1U_AT: usize = 62;
+
+pub const T2_AT: usize = 64;
+
+pub const T3_AT: usize = 66;
 
 // A value whose numbers are put at the start of a list and taken from its start; the list goes on behind them. Kept apart
 // from `Listed` of bridge_records, whose list is octets: a number of a link is one of the list, whatever its type.
@@ -76,11 +85,14 @@ impl<C: InCells, const N: usize> InCells for [C; N] {
     }
 }
 
-// A deadline takes two: whether it is set, and when it is due, 0 where it is not.
+// A deadline takes two: whether it is set, and when it is due. Beside one that is not set the list keeps the number that it
+// has, which the record has no place for: who puts one that a call has unset clears it (`clear`).
 impl InCells for Option<u64> {
     fn put(self, cells: &mut &mut [u64]) {
         self.is_some().put(cells);
-        self.unwrap_or(0).put(cells);
+        if let (Some(cell), Some(at)) = (cells.split_off_first_mut(), self) {
+            *cell = at;
+        }
     }
 
     fn take(cells: &mut &[u64]) -> Option<u64> {
@@ -231,4 +243,12 @@ impl InCells for Link {
 pub fn link_in(cells: &[u64]) -> Link {
     let mut rest = cells;
     Link::take(&mut rest)
+}
+
+pub fn clear(list: &mut [u64], place: usize)
+    ensures { list.new ≡ set list.old place 0 }
+{
+    if place < list.len() {
+        list[place] = 0;
+    }
 }

@@ -2,11 +2,17 @@
 // (bridge_cells). Each function answers document 01's number of refusal, 0 for none.
 #![tactic(auto)]
 
+#[cfg(test)]
+mod tests;
+
 use bridge_cells::{called, cells};
 use link::answers::Done;
 use link_state::opening;
 
-// With the settings that the list has.
+// The first control octet of a test con.
+const TEST_CON: u8 = 0x83;
+
+// With the settings that the list has. All else is new, the times beside deadlines that are not set too.
 pub fn gg_link_open(list: &mut [u64], moment: u64) -> u32 {
     let opened = opening::open(cells::link_in(list).state.settings, moment);
     let nothing = Done {
@@ -14,6 +20,9 @@ pub fn gg_link_open(list: &mut [u64], moment: u64) -> u32 {
         full: false,
         came: false,
     };
+    for place in [cells::T1U_AT, cells::T2_AT, cells::T3_AT] {
+        cells::clear(list, place);
+    }
     called::put(list, opened.link, nothing);
     match opened.answer {
         Ok(()) => 0,
@@ -29,10 +38,13 @@ pub fn gg_link_receive(
     more: bool,
     moment: u64,
 ) -> u32 {
-    called::put_called(
-        list,
-        link_receive::receive(cells::link_in(list), pool, out, f, more, moment),
-    )
+    let called = link_receive::receive(cells::link_in(list), pool, out, f, more, moment);
+    let refusal = called::put_called(list, called, out);
+    // An accepted test con unsets t1 of U frames.
+    if (refusal == 0) & (f.get(2) == Some(&TEST_CON)) {
+        cells::clear(list, cells::T1U_AT);
+    }
+    refusal
 }
 
 pub fn gg_link_send(
@@ -42,29 +54,21 @@ pub fn gg_link_send(
     asdu: &[u8],
     moment: u64,
 ) -> u32 {
-    called::put_called(
-        list,
-        link_send::send(cells::link_in(list), pool, out, asdu, moment),
-    )
+    let called = link_send::send(cells::link_in(list), pool, out, asdu, moment);
+    called::put_called(list, called, out)
 }
 
 pub fn gg_link_stop(list: &mut [u64], pool: &[u8], out: &mut [u8], moment: u64) -> u32 {
-    called::put_called(
-        list,
-        link_time::stop(cells::link_in(list), pool, out, moment),
-    )
+    let called = link_time::stop(cells::link_in(list), pool, out, moment);
+    called::put_called(list, called, out)
 }
 
 pub fn gg_link_test(list: &mut [u64], pool: &[u8], out: &mut [u8], moment: u64) -> u32 {
-    called::put_called(
-        list,
-        link_time::test(cells::link_in(list), pool, out, moment),
-    )
+    let called = link_time::test(cells::link_in(list), pool, out, moment);
+    called::put_called(list, called, out)
 }
 
 pub fn gg_link_tick(list: &mut [u64], pool: &[u8], out: &mut [u8], moment: u64) -> u32 {
-    called::put_called(
-        list,
-        link_time::tick(cells::link_in(list), pool, out, moment),
-    )
+    let called = link_time::tick(cells::link_in(list), pool, out, moment);
+    called::put_called(list, called, out)
 }

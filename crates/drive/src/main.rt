@@ -22,7 +22,7 @@
 // and have 64 bits. Any other line is `bad`.
 #![tactic(auto)]
 
-use drive_link::Station;
+use drive_link::{Station, Timed};
 use std::io;
 use std::io::Read;
 use test_text::LINE_SIZE;
@@ -72,9 +72,9 @@ impl Bench {
             "open" => self.station.open(rt, given),
             "recv" => self.station.receive(rt, given),
             "send" => self.station.send(rt, given),
-            "stop" => self.station.at(rt, link_time::stop, given),
-            "test" => self.station.at(rt, link_time::test, given),
-            "tick" => self.station.at(rt, link_time::tick, given),
+            "stop" => self.station.at(rt, Timed::Stop, given),
+            "test" => self.station.at(rt, Timed::Test, given),
+            "tick" => self.station.at(rt, Timed::Tick, given),
             "topup" => drive_streams::top_up(rt, given),
             "pick" => drive_streams::pick(rt, given),
             _ => drive_frames::answer(rt, name, given),

@@ -10,6 +10,14 @@ use test_text::wrong::Wrong;
 use test_text::{OCTETS_SIZE, numbers, octets};
 use told::Told;
 
+// An event that is told a moment alone.
+#[derive(Clone, Copy)]
+pub enum Timed {
+    Stop,
+    Test,
+    Tick,
+}
+
 // The link that was opened last, if that was not refused, and what its ASDUs wait in.
 #[derive(Drop)]
 pub struct Station {
@@ -77,19 +85,15 @@ impl Station {
         self.tell(rt, called, &out)
     }
 
-    // An event that is told a moment alone.
-    pub fn at<E: FnOnce(Link, &[u8], &mut [u8], u64) -> Called>(
-        &mut self,
-        rt: &impl Print,
-        event: E,
-        given: &str,
-    ) -> Result<(), Wrong>
-        requires { E.IsAlwaysCallable event }
-    {
+    pub fn at(&mut self, rt: &impl Print, event: Timed, given: &str) -> Result<(), Wrong> {
         let link = self.link.ok_or(Wrong::Bad)?;
         let [now] = numbers::take::<1>(given).ok_or(Wrong::Bad)?;
         let mut out = [0; MIN_OUTPUT];
-        let called = event(link, &self.pool, &mut out, now);
+        let called = match event {
+            Timed::Stop => link_time::stop(link, &self.pool, &mut out, now),
+            Timed::Test => link_time::test(link, &self.pool, &mut out, now),
+            Timed::Tick => link_time::tick(link, &self.pool, &mut out, now),
+        };
         self.tell(rt, called, &out)
     }
 
