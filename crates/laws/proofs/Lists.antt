@@ -8,7 +8,7 @@ use native.Mathlib.Numerals.{add-one}
 use native.Mathlib.Nat.{zero-add, add-zero, add-suc, le-add_right, add_assoc, add-sub_of_le, mod-add-mod, mod-lt, mod-eq_of_lt, mod-eq-sub-mod}
 use native.Mathlib.Decide.{dec_lt}
 use lib.ListN.{replicate, length-replicate, length, set, take, drop, get_or, length-append, length-take, length-drop, drop_of_length-le, take-append-drop, get_or-append}
-use lib.Seq.{take-length, drop-length, take-set-le, drop-set-add, sets, sets-eq, length-sets, set_out, drop-drop, take_at, drop_at, get_or_at, get_or-take, get_or-drop, get_or-append-add, ext_get_or}
+use lib.Seq.{take-length, drop-length, take-set-le, drop-set-add, drop-cons, sets, sets-eq, set_out, drop-drop, take_at, drop_at, get_or_at, get_or-take, get_or-drop, get_or-append-add, ext_get_or}
 use Rattle.laws.specs.Lists.{Octets, put, tabulate, ring, padded}
 
 -- ---- octets
@@ -41,27 +41,22 @@ module _ {A : Type 0} where
   pub sets_all : (l vs : List A) → length vs ≤ length l → sets l 0 vs ≡ vs ++ drop (length vs) l
   sets_all l vs h = sets-eq vs l 0 (rw zero-add h) ∙ rw zero-add
 
+  -- a row stored one by one: a turn, and what is left where the row or the list ends
+  pub sets_turn : (l : List A) (at i : ℕ) (vs : List A) (z : A) → i < length vs
+      → sets (set l (at + i) (get_or vs i z)) (at + (i + 1)) (drop (i + 1) vs) ≡ sets l (at + i) (drop i vs)
+  sets_turn l at i vs z h =
+      let e : at + (i + 1) ≡ suc (at + i) = omega arith in
+      rw (drop-cons vs i z h, e, add-one i)
+
+  pub sets_stop : (l : List A) (at i : ℕ) (vs : List A) → min (length l - at) (length vs) ≤ i → sets l (at + i) (drop i vs) ≡ l
+  sets_stop l at i vs h = elim (dec_lt i (length vs)) [
+    | yes g ↦ sets_past l (at + i) (drop i vs) (omega arith)
+    | no g ↦ let past : length vs ≤ i = omega arith in ap (sets l (at + i)) (drop_of_length-le vs past)
+  ]
+
   pub sets_append : (l : List A) (i : ℕ) (vs ws : List A) → sets l i (vs ++ ws) ≡ sets (sets l i vs) (i + length vs) ws
   sets_append l i [] ws = rw add-zero
   sets_append l i (v ∷ vs) ws = sets_append (set l i v) (suc i) vs ws ∙ ap (λ (j : ℕ). sets (sets (set l i v) (suc i) vs) j ws) (omega arith)
-
-  -- only as much as the list reaches is stored
-  pub sets_within : (l : List A) (at : ℕ) (vs : List A) → at ≤ length l
-      → let n = min (length l - at) (length vs) in sets l at vs ≡ take at l ++ (take n vs ++ drop n (drop at l))
-  sets_within l at vs h =
-      let n = min (length l - at) (length vs) in
-      let front = take n vs in
-      let m = sets l at front in
-      let long : length front ≡ n = simp length-take (omega arith) in
-      let rest : sets m (at + n) (drop n vs) ≡ m = elim (dec_lt n (length vs)) [
-        | yes g ↦ sets_past m (at + n) (drop n vs) (omega (arith, length-sets l at front))
-        | no g ↦ let past : length vs ≤ n = omega arith in ap (sets m (at + n)) (drop_of_length-le vs past)
-      ] in
-      let fits : at + length front ≤ length l = omega arith in
-      ap (sets l at) (sym (take-append-drop n vs))
-      ∙ (sets_append l at front (drop n vs)
-      ∙ (ap (λ (k : ℕ). sets m (at + k) (drop n vs)) long
-      ∙ (rest ∙ (sets-eq front l at fits ∙ rw (long, append_assoc, drop-drop n at l)))))
 
   -- ---- a part that was lent
 

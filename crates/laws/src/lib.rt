@@ -85,13 +85,11 @@ pub fn put_le<const N: usize>(out: &mut [u8], at: usize, n: u32)
     }
 }
 
-// Octets in a row, as far as the output reaches.
-#[tactic(auto, using(crate::proofs::Lists::sets_past, crate::proofs::Lists::sets_within))]
+// Octets in a row, as far as the output reaches. One by one: the library's copy would have an archive for C need `memmove`.
 pub fn put_octets(out: &mut [u8], at: usize, octets: &[u8])
     ensures { out.new ≡ sets out.old at octets.now }
 {
-    if at < out.len() {
-        let n = up_to(out.len(), at, octets.len());
-        out[at..at + n].copy_from_slice(&octets[..n]);
+    for i in 0..up_to(out.len(), at, octets.len()) {
+        out[at + i] = octets[i];
     }
 }
