@@ -5,6 +5,9 @@ ghost use Rattle.std.specs.Prelude.{◌≡◌, set};
 use apdu::frame::{ReceiveNumber, SendNumber};
 use link_state::{Link, Queue, Receive, Settings, State, Status, Timers, Window};
 
+// The cells of the settings begin here.
+const SETTINGS_AT: usize = 50;
+
 // The cells of the times at which t1 of U frames, t2 and t3 are due.
 pub const T1U_AT: usize = 62;
 
@@ -243,6 +246,12 @@ impl InCells for Link {
 pub fn link_in(cells: &[u64]) -> Link {
     let mut rest = cells;
     Link::take(&mut rest)
+}
+
+// The settings alone: opening takes nothing else of a list.
+pub fn settings_in(cells: &[u64]) -> Settings {
+    let mut rest = cells.get(SETTINGS_AT..).unwrap_or(&[]);
+    Settings::take(&mut rest)
 }
 
 pub fn clear(list: &mut [u64], place: usize)

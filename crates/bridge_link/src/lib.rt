@@ -14,7 +14,7 @@ const TEST_CON: u8 = 0x83;
 
 // With the settings that the list has. All else is new, the times beside deadlines that are not set too.
 pub fn gg_link_open(list: &mut [u64], moment: u64) -> u32 {
-    let opened = opening::open(cells::link_in(list).state.settings, moment);
+    let opened = opening::open(cells::settings_in(list), moment);
     let nothing = Done {
         written: 0,
         full: false,
