@@ -23,9 +23,11 @@
 #![tactic(auto)]
 
 use drive_link::Station;
+use std::fmt::Write;
 use std::io;
 use std::io::Read;
 use test_text::LINE_SIZE;
+use test_text::reply::Reply;
 use test_text::wrong::Wrong;
 
 // The bytes of a line that have come. An array and a length: the program takes no memory but its own.
@@ -43,12 +45,12 @@ impl Line {
         }
     }
 
-    // A byte that there is no room for counts.
-    fn push(&mut self, byte: u8) {
-        if let Some(place) = self.bytes.get_mut(self.len) {
-            *place = byte;
-        }
-        self.len = self.len.saturating_add(1);
+    // Bytes that there is no room for count.
+    fn push(&mut self, more: &[u8]) {
+        let room = self.bytes.get_mut(self.len..).unwrap_or(&mut []);
+        let n = more.len().min(room.len());
+        room[..n].copy_from_slice(&more[..n]);
+        self.len = self.len.saturating_add(more.len());
     }
 
     // None where it is too long, or no text.
@@ -61,43 +63,51 @@ impl Line {
 struct Bench {
     line: Line,
     station: Station,
+    reply: Reply,
 }
 
 impl Bench {
     // A command and what it is given, with one space between.
-    fn run(&mut self, rt: &impl Print) -> Result<(), Wrong> {
+    fn run(&mut self) -> Result<(), Wrong> {
+        let reply = &mut self.reply;
         let text = self.line.text().ok_or(Wrong::Bad)?;
         let (name, given) = text.split_once(' ').unwrap_or((text, ""));
         match name {
-            "open" => self.station.open(rt, given),
-            "recv" => self.station.receive(rt, given),
-            "send" => self.station.send(rt, given),
-            "stop" => self.station.at(rt, link_time::stop, given),
-            "test" => self.station.at(rt, link_time::test, given),
-            "tick" => self.station.at(rt, link_time::tick, given),
-            "topup" => drive_streams::top_up(rt, given),
-            "pick" => drive_streams::pick(rt, given),
-            _ => drive_frames::answer(rt, name, given),
+            "open" => self.station.open(reply, given),
+            "recv" => self.station.receive(reply, given),
+            "send" => self.station.send(reply, given),
+            "stop" => self.station.at(reply, link_time::stop, given),
+            "test" => self.station.at(reply, link_time::test, given),
+            "tick" => self.station.at(reply, link_time::tick, given),
+            "topup" => drive_streams::top_up(reply, given),
+            "pick" => drive_streams::pick(reply, given),
+            _ => drive_frames::answer(reply, name, given),
         }
     }
 
     fn answer(&mut self, rt: &impl Print) -> io::Result<()> {
-        let ended = self.run(rt);
+        let ended = self.run();
         self.line.len = 0;
         match ended {
-            Ok(()) => Ok(()),
-            Err(Wrong::Bad) => println!(rt; "bad"),
-            Err(Wrong::Refused(refusal)) => println!(rt; "{refusal}"),
-            Err(Wrong::Output(error)) => Err(error),
+            Ok(()) => {}
+            Err(Wrong::Bad) => self.reply.write_str("bad")?,
+            Err(Wrong::Refused(refusal)) => write!(self.reply, "{refusal}")?,
+            Err(Wrong::Output(error)) => return Err(error),
         }
+        self.reply.send(rt)
     }
 
     // A line's end has it answered; any other byte is held.
-    fn take(&mut self, rt: &impl Print, byte: u8) -> io::Result<()> {
-        if byte == b'\n' {
-            return self.answer(rt);
+    fn take(&mut self, rt: &impl Print, bytes: &[u8]) -> io::Result<()> {
+        for part in bytes.split_inclusive(|byte| *byte == b'\n') {
+            match part.strip_suffix(b"\n") {
+                Some(rest) => {
+                    self.line.push(rest);
+                    self.answer(rt)?;
+                }
+                None => self.line.push(part),
+            }
         }
-        self.line.push(byte);
         Ok(())
     }
 }
@@ -106,6 +116,7 @@ fn main(rt: HostRuntime) -> io::Result<()> {
     let mut bench = Bench {
         line: Line::new(),
         station: Station::new(),
+        reply: Reply::new(),
     };
     let mut commands = rt.stdin();
     let mut bytes = [0; 4096];
@@ -115,9 +126,7 @@ fn main(rt: HostRuntime) -> io::Result<()> {
         if n == 0 {
             break;
         }
-        for byte in &bytes[..n] {
-            bench.take(&rt, *byte)?;
-        }
+        bench.take(&rt, &bytes[..n])?;
     }
     if bench.line.len > 0 {
         bench.answer(&rt)?;

@@ -6,6 +6,8 @@ mod told;
 use link::answers::Called;
 use link_state::limits::{MIN_OUTPUT, MIN_POOL};
 use link_state::{Link, Settings, opening};
+use std::fmt::Write;
+use test_text::reply::Reply;
 use test_text::wrong::Wrong;
 use test_text::{OCTETS_SIZE, numbers, octets};
 use told::Told;
@@ -44,18 +46,18 @@ impl Station {
         }
     }
 
-    pub fn open(&mut self, rt: &impl Print, given: &str) -> Result<(), Wrong> {
+    pub fn open(&mut self, reply: &mut Reply, given: &str) -> Result<(), Wrong> {
         let [k, w, p, t1, t2, t3, now] = numbers::take::<7>(given).ok_or(Wrong::Bad)?;
         let opened = opening::open(settings_of(k, w, p, [t1, t2, t3]), now);
         self.link = None;
         opened.answer?;
         self.link = Some(opened.link);
-        println!(rt; "ok")?;
+        reply.write_str("ok")?;
         Ok(())
     }
 
     // Octets, the mark "more to come" and a moment.
-    pub fn receive(&mut self, rt: &impl Print, given: &str) -> Result<(), Wrong> {
+    pub fn receive(&mut self, reply: &mut Reply, given: &str) -> Result<(), Wrong> {
         let link = self.link.ok_or(Wrong::Bad)?;
         let mut room = [0; OCTETS_SIZE];
         let (frame, [more, now]) = take::<2>(given, &mut room).ok_or(Wrong::Bad)?;
@@ -64,23 +66,23 @@ impl Station {
         }
         let mut out = [0; MIN_OUTPUT];
         let called = link_receive::receive(link, &self.pool, &mut out, frame, more == 1, now);
-        self.tell(rt, called, &out)
+        self.tell(reply, called, &out)
     }
 
     // Octets and a moment.
-    pub fn send(&mut self, rt: &impl Print, given: &str) -> Result<(), Wrong> {
+    pub fn send(&mut self, reply: &mut Reply, given: &str) -> Result<(), Wrong> {
         let link = self.link.ok_or(Wrong::Bad)?;
         let mut room = [0; OCTETS_SIZE];
         let (asdu, [now]) = take::<1>(given, &mut room).ok_or(Wrong::Bad)?;
         let mut out = [0; MIN_OUTPUT];
         let called = link_send::send(link, &mut self.pool, &mut out, asdu, now);
-        self.tell(rt, called, &out)
+        self.tell(reply, called, &out)
     }
 
     // An event that is told a moment alone.
     pub fn at<E: FnOnce(Link, &[u8], &mut [u8], u64) -> Called>(
         &mut self,
-        rt: &impl Print,
+        reply: &mut Reply,
         event: E,
         given: &str,
     ) -> Result<(), Wrong>
@@ -90,12 +92,12 @@ impl Station {
         let [now] = numbers::take::<1>(given).ok_or(Wrong::Bad)?;
         let mut out = [0; MIN_OUTPUT];
         let called = event(link, &self.pool, &mut out, now);
-        self.tell(rt, called, &out)
+        self.tell(reply, called, &out)
     }
 
-    fn tell(&mut self, rt: &impl Print, called: Called, out: &[u8]) -> Result<(), Wrong> {
+    fn tell(&mut self, reply: &mut Reply, called: Called, out: &[u8]) -> Result<(), Wrong> {
         self.link = Some(called.link);
-        println!(rt; "{}", Told { called, out })?;
+        write!(reply, "{}", Told { called, out })?;
         Ok(())
     }
 }
