@@ -26,9 +26,9 @@ use drive_link::Station;
 use std::fmt::Write;
 use std::io;
 use std::io::Read;
-use test_text::LINE_SIZE;
 use test_text::reply::Reply;
 use test_text::wrong::Wrong;
+use test_text::{LINE_SIZE, OCTETS_SIZE};
 
 // The bytes of a line that have come. An array and a length: the program takes no memory but its own.
 #[derive(Drop)]
@@ -63,6 +63,7 @@ impl Line {
 struct Bench {
     line: Line,
     station: Station,
+    room: [u8; OCTETS_SIZE],
     reply: Reply,
 }
 
@@ -81,7 +82,7 @@ impl Bench {
             "tick" => self.station.at(reply, link_time::tick, given),
             "topup" => drive_streams::top_up(reply, given),
             "pick" => drive_streams::pick(reply, given),
-            _ => drive_frames::answer(reply, name, given),
+            _ => drive_frames::answer(reply, &mut self.room, name, given),
         }
     }
 
@@ -116,6 +117,7 @@ fn main(rt: HostRuntime) -> io::Result<()> {
     let mut bench = Bench {
         line: Line::new(),
         station: Station::new(),
+        room: [0; OCTETS_SIZE],
         reply: Reply::new(),
     };
     let mut commands = rt.stdin();

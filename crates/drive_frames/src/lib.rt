@@ -19,10 +19,14 @@ fn show_form(reply: &mut Reply, form: Form) -> Result<(), Wrong> {
     Ok(())
 }
 
-// A command by its name, and its octets as text.
-pub fn answer(reply: &mut Reply, name: &str, digits: &str) -> Result<(), Wrong> {
-    let mut room = [0; OCTETS_SIZE];
-    let given = octets::take(digits, &mut room).ok_or(Wrong::Bad)?;
+// A command by its name, its octets as text, and a room for these.
+pub fn answer(
+    reply: &mut Reply,
+    room: &mut [u8; OCTETS_SIZE],
+    name: &str,
+    digits: &str,
+) -> Result<(), Wrong> {
+    let given = octets::take(digits, room).ok_or(Wrong::Bad)?;
     match name {
         "frame" => frames::show(reply, given),
         "plain" => show_form(reply, reading::plain_frame(given)?),

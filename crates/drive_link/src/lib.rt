@@ -12,11 +12,14 @@ use test_text::wrong::Wrong;
 use test_text::{OCTETS_SIZE, numbers, octets};
 use told::Told;
 
-// The link that was opened last, if that was not refused, and what its ASDUs wait in.
+// The link that was opened last, if that was not refused, and what its ASDUs wait in. The rooms for octets that a call is
+// given and writes stand here, as clearing them would take a good part of a call's time.
 #[derive(Drop)]
 pub struct Station {
     link: Option<Link>,
     pool: [u8; MIN_POOL],
+    room: [u8; OCTETS_SIZE],
+    out: [u8; MIN_OUTPUT],
 }
 
 // A number that is too great for its field reads as the field's greatest.
@@ -43,6 +46,8 @@ impl Station {
         Station {
             link: None,
             pool: [0; MIN_POOL],
+            room: [0; OCTETS_SIZE],
+            out: [0; MIN_OUTPUT],
         }
     }
 
@@ -59,24 +64,21 @@ impl Station {
     // Octets, the mark "more to come" and a moment.
     pub fn receive(&mut self, reply: &mut Reply, given: &str) -> Result<(), Wrong> {
         let link = self.link.ok_or(Wrong::Bad)?;
-        let mut room = [0; OCTETS_SIZE];
-        let (frame, [more, now]) = take::<2>(given, &mut room).ok_or(Wrong::Bad)?;
+        let (frame, [more, now]) = take::<2>(given, &mut self.room).ok_or(Wrong::Bad)?;
         if more > 1 {
             return Err(Wrong::Bad);
         }
-        let mut out = [0; MIN_OUTPUT];
-        let called = link_receive::receive(link, &self.pool, &mut out, frame, more == 1, now);
-        self.tell(reply, called, &out)
+        let out = &mut self.out;
+        let called = link_receive::receive(link, &self.pool, out, frame, more == 1, now);
+        self.tell(reply, called)
     }
 
     // Octets and a moment.
     pub fn send(&mut self, reply: &mut Reply, given: &str) -> Result<(), Wrong> {
         let link = self.link.ok_or(Wrong::Bad)?;
-        let mut room = [0; OCTETS_SIZE];
-        let (asdu, [now]) = take::<1>(given, &mut room).ok_or(Wrong::Bad)?;
-        let mut out = [0; MIN_OUTPUT];
-        let called = link_send::send(link, &mut self.pool, &mut out, asdu, now);
-        self.tell(reply, called, &out)
+        let (asdu, [now]) = take::<1>(given, &mut self.room).ok_or(Wrong::Bad)?;
+        let called = link_send::send(link, &mut self.pool, &mut self.out, asdu, now);
+        self.tell(reply, called)
     }
 
     // An event that is told a moment alone.
@@ -90,13 +92,13 @@ impl Station {
     {
         let link = self.link.ok_or(Wrong::Bad)?;
         let [now] = numbers::take::<1>(given).ok_or(Wrong::Bad)?;
-        let mut out = [0; MIN_OUTPUT];
-        let called = event(link, &self.pool, &mut out, now);
-        self.tell(reply, called, &out)
+        let called = event(link, &self.pool, &mut self.out, now);
+        self.tell(reply, called)
     }
 
-    fn tell(&mut self, reply: &mut Reply, called: Called, out: &[u8]) -> Result<(), Wrong> {
+    fn tell(&mut self, reply: &mut Reply, called: Called) -> Result<(), Wrong> {
         self.link = Some(called.link);
+        let out = &self.out;
         write!(reply, "{}", Told { called, out })?;
         Ok(())
     }

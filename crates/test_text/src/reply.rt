@@ -1,7 +1,6 @@
 // A program's answer to a line of its input: what is written to it is kept, and goes out whole.
-use std::fmt;
 use std::fmt::Write;
-use std::io;
+use std::{fmt, io};
 
 // The longest answer, of a link that hands out 16 full frames, has under 8,300 bytes.
 const SIZE: usize = 8320;
