@@ -23,10 +23,12 @@
 #![tactic(auto)]
 
 use drive_link::{Station, Timed};
+use std::fmt::Write;
 use std::io;
 use std::io::Read;
-use test_text::LINE_SIZE;
+use test_text::reply::Reply;
 use test_text::wrong::Wrong;
+use test_text::{LINE_SIZE, OCTETS_SIZE};
 
 // The bytes of a line that have come. An array and a length: the program takes no memory but its own.
 #[derive(Drop)]
@@ -43,12 +45,12 @@ impl Line {
         }
     }
 
-    // A byte that there is no room for counts.
-    fn push(&mut self, byte: u8) {
-        if let Some(place) = self.bytes.get_mut(self.len) {
-            *place = byte;
-        }
-        self.len = self.len.saturating_add(1);
+    // Bytes that there is no room for count.
+    fn push(&mut self, more: &[u8]) {
+        let room = self.bytes.get_mut(self.len..).unwrap_or(&mut []);
+        let n = more.len().min(room.len());
+        room[..n].copy_from_slice(&more[..n]);
+        self.len = self.len.saturating_add(more.len());
     }
 
     // None where it is too long, or no text.
@@ -61,43 +63,50 @@ impl Line {
 struct Bench {
     line: Line,
     station: Station,
+    room: [u8; OCTETS_SIZE],
+    reply: Reply,
 }
 
 impl Bench {
     // A command and what it is given, with one space between.
-    fn run(&mut self, rt: &impl Print) -> Result<(), Wrong> {
+    fn run(&mut self) -> Result<(), Wrong> {
+        let reply = &mut self.reply;
         let text = self.line.text().ok_or(Wrong::Bad)?;
         let (name, given) = text.split_once(' ').unwrap_or((text, ""));
         match name {
-            "open" => self.station.open(rt, given),
-            "recv" => self.station.receive(rt, given),
-            "send" => self.station.send(rt, given),
-            "stop" => self.station.at(rt, Timed::Stop, given),
-            "test" => self.station.at(rt, Timed::Test, given),
-            "tick" => self.station.at(rt, Timed::Tick, given),
-            "topup" => drive_streams::top_up(rt, given),
-            "pick" => drive_streams::pick(rt, given),
-            _ => drive_frames::answer(rt, name, given),
+            "open" => self.station.open(reply, given),
+            "recv" => self.station.receive(reply, given),
+            "send" => self.station.send(reply, given),
+            "stop" => self.station.at(reply, Timed::Stop, given),
+            "test" => self.station.at(reply, Timed::Test, given),
+            "tick" => self.station.at(reply, Timed::Tick, given),
+            "topup" => drive_streams::top_up(reply, given),
+            "pick" => drive_streams::pick(reply, given),
+            _ => drive_frames::answer(reply, &mut self.room, name, given),
         }
     }
 
     fn answer(&mut self, rt: &impl Print) -> io::Result<()> {
-        let ended = self.run(rt);
+        let ended = self.run();
         self.line.len = 0;
         match ended {
-            Ok(()) => Ok(()),
-            Err(Wrong::Bad) => println!(rt; "bad"),
-            Err(Wrong::Refused(refusal)) => println!(rt; "{refusal}"),
-            Err(Wrong::Output(error)) => Err(error),
+            Ok(()) => {}
+            Err(Wrong::Bad) => self.reply.write_str("bad")?,
+            Err(Wrong::Refused(refusal)) => write!(self.reply, "{refusal}")?,
+            Err(Wrong::Output(error)) => return Err(error),
         }
+        self.reply.send(rt)
     }
 
     // A line's end has it answered; any other byte is held.
-    fn take(&mut self, rt: &impl Print, byte: u8) -> io::Result<()> {
-        if byte == b'\n' {
-            return self.answer(rt);
+    fn take(&mut self, rt: &impl Print, bytes: &[u8]) -> io::Result<()> {
+        let mut start = 0;
+        for end in memchr::memchr_iter(b'\n', bytes) {
+            self.line.push(bytes.get(start..end).unwrap_or(&[]));
+            self.answer(rt)?;
+            start = end.saturating_add(1);
         }
-        self.line.push(byte);
+        self.line.push(bytes.get(start..).unwrap_or(&[]));
         Ok(())
     }
 }
@@ -106,6 +115,8 @@ fn main(rt: HostRuntime) -> io::Result<()> {
     let mut bench = Bench {
         line: Line::new(),
         station: Station::new(),
+        room: [0; OCTETS_SIZE],
+        reply: Reply::new(),
     };
     let mut commands = rt.stdin();
     let mut bytes = [0; 4096];
@@ -115,9 +126,7 @@ fn main(rt: HostRuntime) -> io::Result<()> {
         if n == 0 {
             break;
         }
-        for byte in &bytes[..n] {
-            bench.take(&rt, *byte)?;
-        }
+        bench.take(&rt, &bytes[..n])?;
     }
     if bench.line.len > 0 {
         bench.answer(&rt)?;

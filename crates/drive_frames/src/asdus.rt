@@ -2,7 +2,9 @@
 use asdu::{Asdu, header};
 use drive_values::Shown;
 use std::fmt;
+use std::fmt::Write;
 use test_text::octets::Hex;
+use test_text::reply::Reply;
 use test_text::wrong::Wrong;
 
 // The header, and each object after it.
@@ -28,18 +30,18 @@ impl<'a> fmt::Display for Record<'a> {
     }
 }
 
-pub fn show(rt: &impl Print, given: &[u8]) -> Result<(), Wrong> {
+pub fn show(reply: &mut Reply, given: &[u8]) -> Result<(), Wrong> {
     let read = asdu_read::read_asdu(given);
     read.answer?;
-    println!(rt; "{}", Record(&read.asdu))?;
+    write!(reply, "{}", Record(&read.asdu))?;
     Ok(())
 }
 
-pub fn rewrite(rt: &impl Print, given: &[u8]) -> Result<(), Wrong> {
+pub fn rewrite(reply: &mut Reply, given: &[u8]) -> Result<(), Wrong> {
     let read = asdu_read::read_asdu(given);
     read.answer?;
     let mut out = [0; header::MAX_SIZE];
     let n = asdu_write::write_asdu(&read.asdu, &mut out)?;
-    println!(rt; "{}", Hex(&out[..n.min(header::MAX_SIZE)]))?;
+    write!(reply, "{}", Hex(&out[..n.min(header::MAX_SIZE)]))?;
     Ok(())
 }

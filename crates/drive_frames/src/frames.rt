@@ -2,24 +2,27 @@
 use apdu::frame::Frame;
 use apdu::{reading, writing};
 use elements::refusals::Refusal;
-use test_text::octets::Hex;
+use std::fmt::Write;
+use test_text::octets::{Digits, Hex};
+use test_text::reply::Reply;
 use test_text::wrong::Wrong;
 
 // Octets of the longest frame.
 const MAX_SIZE: usize = 255;
 
-pub fn show(rt: &impl Print, given: &[u8]) -> Result<(), Wrong> {
+pub fn show(reply: &mut Reply, given: &[u8]) -> Result<(), Wrong> {
     match reading::read_frame(given)? {
         Frame::I(send, receive) => {
-            println!(rt;
+            write!(
+                reply,
                 "I {} {} {}",
                 send.0,
                 receive.0,
                 Hex(reading::asdu_of(given))
             )?;
         }
-        Frame::S(receive) => println!(rt; "S {}", receive.0)?,
-        Frame::U(u) => println!(rt; "U {:02x}", u.to_byte())?,
+        Frame::S(receive) => write!(reply, "S {}", receive.0)?,
+        Frame::U(u) => write!(reply, "U {}", Digits(&[u.to_byte()]))?,
     }
     Ok(())
 }
@@ -36,9 +39,9 @@ fn written(given: &[u8], out: &mut [u8]) -> Result<usize, Refusal> {
     }
 }
 
-pub fn rewrite(rt: &impl Print, given: &[u8]) -> Result<(), Wrong> {
+pub fn rewrite(reply: &mut Reply, given: &[u8]) -> Result<(), Wrong> {
     let mut out = [0; MAX_SIZE];
     let n = written(given, &mut out)?;
-    println!(rt; "{}", Hex(&out[..n.min(MAX_SIZE)]))?;
+    write!(reply, "{}", Hex(&out[..n.min(MAX_SIZE)]))?;
     Ok(())
 }

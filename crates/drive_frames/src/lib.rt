@@ -6,28 +6,34 @@ mod frames;
 
 use apdu::reading;
 use asdu::Form;
+use std::fmt::Write;
+use test_text::reply::Reply;
 use test_text::wrong::Wrong;
 use test_text::{OCTETS_SIZE, octets};
 
-fn show_form(rt: &impl Print, form: Form) -> Result<(), Wrong> {
+fn show_form(reply: &mut Reply, form: Form) -> Result<(), Wrong> {
     match form {
-        Form::Plain => println!(rt; "plain")?,
-        Form::Reserved => println!(rt; "reserved")?,
+        Form::Plain => reply.write_str("plain")?,
+        Form::Reserved => reply.write_str("reserved")?,
     }
     Ok(())
 }
 
-// A command by its name, and its octets as text.
-pub fn answer(rt: &impl Print, name: &str, digits: &str) -> Result<(), Wrong> {
-    let mut room = [0; OCTETS_SIZE];
-    let given = octets::take(digits, &mut room).ok_or(Wrong::Bad)?;
+// A command by its name, its octets as text, and a room for these.
+pub fn answer(
+    reply: &mut Reply,
+    room: &mut [u8; OCTETS_SIZE],
+    name: &str,
+    digits: &str,
+) -> Result<(), Wrong> {
+    let given = octets::take(digits, room).ok_or(Wrong::Bad)?;
     match name {
-        "frame" => frames::show(rt, given),
-        "plain" => show_form(rt, reading::plain_frame(given)?),
-        "rewrite" => frames::rewrite(rt, given),
-        "asdu" => asdus::show(rt, given),
-        "plainasdu" => show_form(rt, asdu_plain::plain_asdu(given)?),
-        "rewriteasdu" => asdus::rewrite(rt, given),
+        "frame" => frames::show(reply, given),
+        "plain" => show_form(reply, reading::plain_frame(given)?),
+        "rewrite" => frames::rewrite(reply, given),
+        "asdu" => asdus::show(reply, given),
+        "plainasdu" => show_form(reply, asdu_plain::plain_asdu(given)?),
+        "rewriteasdu" => asdus::rewrite(reply, given),
         _ => Err(Wrong::Bad),
     }
 }

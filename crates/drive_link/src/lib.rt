@@ -6,6 +6,8 @@ mod told;
 use link::answers::Called;
 use link_state::limits::{MIN_OUTPUT, MIN_POOL};
 use link_state::{Link, Settings, opening};
+use std::fmt::Write;
+use test_text::reply::Reply;
 use test_text::wrong::Wrong;
 use test_text::{OCTETS_SIZE, numbers, octets};
 use told::Told;
@@ -18,11 +20,14 @@ pub enum Timed {
     Tick,
 }
 
-// The link that was opened last, if that was not refused, and what its ASDUs wait in.
+// The link that was opened last, if that was not refused, and what its ASDUs wait in. The rooms for octets that a call is
+// given and writes stand here, as clearing them would take a good part of a call's time.
 #[derive(Drop)]
 pub struct Station {
     link: Option<Link>,
     pool: [u8; MIN_POOL],
+    room: [u8; OCTETS_SIZE],
+    out: [u8; MIN_OUTPUT],
 }
 
 // A number that is too great for its field reads as the field's greatest.
@@ -49,57 +54,57 @@ impl Station {
         Station {
             link: None,
             pool: [0; MIN_POOL],
+            room: [0; OCTETS_SIZE],
+            out: [0; MIN_OUTPUT],
         }
     }
 
-    pub fn open(&mut self, rt: &impl Print, given: &str) -> Result<(), Wrong> {
+    pub fn open(&mut self, reply: &mut Reply, given: &str) -> Result<(), Wrong> {
         let [k, w, p, t1, t2, t3, now] = numbers::take::<7>(given).ok_or(Wrong::Bad)?;
         let opened = opening::open(settings_of(k, w, p, [t1, t2, t3]), now);
         self.link = None;
         opened.answer?;
         self.link = Some(opened.link);
-        println!(rt; "ok")?;
+        reply.write_str("ok")?;
         Ok(())
     }
 
     // Octets, the mark "more to come" and a moment.
-    pub fn receive(&mut self, rt: &impl Print, given: &str) -> Result<(), Wrong> {
+    pub fn receive(&mut self, reply: &mut Reply, given: &str) -> Result<(), Wrong> {
         let link = self.link.ok_or(Wrong::Bad)?;
-        let mut room = [0; OCTETS_SIZE];
-        let (frame, [more, now]) = take::<2>(given, &mut room).ok_or(Wrong::Bad)?;
+        let (frame, [more, now]) = take::<2>(given, &mut self.room).ok_or(Wrong::Bad)?;
         if more > 1 {
             return Err(Wrong::Bad);
         }
-        let mut out = [0; MIN_OUTPUT];
-        let called = link_receive::receive(link, &self.pool, &mut out, frame, more == 1, now);
-        self.tell(rt, called, &out)
+        let out = &mut self.out;
+        let called = link_receive::receive(link, &self.pool, out, frame, more == 1, now);
+        self.tell(reply, called)
     }
 
     // Octets and a moment.
-    pub fn send(&mut self, rt: &impl Print, given: &str) -> Result<(), Wrong> {
+    pub fn send(&mut self, reply: &mut Reply, given: &str) -> Result<(), Wrong> {
         let link = self.link.ok_or(Wrong::Bad)?;
-        let mut room = [0; OCTETS_SIZE];
-        let (asdu, [now]) = take::<1>(given, &mut room).ok_or(Wrong::Bad)?;
-        let mut out = [0; MIN_OUTPUT];
-        let called = link_send::send(link, &mut self.pool, &mut out, asdu, now);
-        self.tell(rt, called, &out)
+        let (asdu, [now]) = take::<1>(given, &mut self.room).ok_or(Wrong::Bad)?;
+        let called = link_send::send(link, &mut self.pool, &mut self.out, asdu, now);
+        self.tell(reply, called)
     }
 
-    pub fn at(&mut self, rt: &impl Print, event: Timed, given: &str) -> Result<(), Wrong> {
+    pub fn at(&mut self, reply: &mut Reply, event: Timed, given: &str) -> Result<(), Wrong> {
         let link = self.link.ok_or(Wrong::Bad)?;
         let [now] = numbers::take::<1>(given).ok_or(Wrong::Bad)?;
-        let mut out = [0; MIN_OUTPUT];
+        let out = &mut self.out;
         let called = match event {
-            Timed::Stop => link_time::stop(link, &self.pool, &mut out, now),
-            Timed::Test => link_time::test(link, &self.pool, &mut out, now),
-            Timed::Tick => link_time::tick(link, &self.pool, &mut out, now),
+            Timed::Stop => link_time::stop(link, &self.pool, out, now),
+            Timed::Test => link_time::test(link, &self.pool, out, now),
+            Timed::Tick => link_time::tick(link, &self.pool, out, now),
         };
-        self.tell(rt, called, &out)
+        self.tell(reply, called)
     }
 
-    fn tell(&mut self, rt: &impl Print, called: Called, out: &[u8]) -> Result<(), Wrong> {
+    fn tell(&mut self, reply: &mut Reply, called: Called) -> Result<(), Wrong> {
         self.link = Some(called.link);
-        println!(rt; "{}", Told { called, out })?;
+        let out = &self.out;
+        write!(reply, "{}", Told { called, out })?;
         Ok(())
     }
 }

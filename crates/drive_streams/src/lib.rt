@@ -3,6 +3,8 @@
 
 use assembly::{Pick, picking, topping};
 use elements::refusals::Refusal;
+use std::fmt::Write;
+use test_text::reply::Reply;
 use test_text::wrong::Wrong;
 use test_text::{OCTETS_SIZE, octets};
 
@@ -29,23 +31,23 @@ fn which(carry: &[u8; OCTETS_SIZE], held: usize, chunk: &[u8]) -> Result<Pick, R
     picking::which(&carry[..CARRY_SIZE], held, chunk)
 }
 
-pub fn top_up(rt: &impl Print, given: &str) -> Result<(), Wrong> {
+pub fn top_up(reply: &mut Reply, given: &str) -> Result<(), Wrong> {
     let mut carry = [0; OCTETS_SIZE];
     let mut room = [0; OCTETS_SIZE];
     let (held, chunk) = take(given, &mut carry, &mut room).ok_or(Wrong::Bad)?;
     let moved = topped(&mut carry, held, chunk)?;
-    println!(rt; "moved {moved}")?;
+    write!(reply, "moved {moved}")?;
     Ok(())
 }
 
-pub fn pick(rt: &impl Print, given: &str) -> Result<(), Wrong> {
+pub fn pick(reply: &mut Reply, given: &str) -> Result<(), Wrong> {
     let mut carry = [0; OCTETS_SIZE];
     let mut room = [0; OCTETS_SIZE];
     let (held, chunk) = take(given, &mut carry, &mut room).ok_or(Wrong::Bad)?;
     match which(&carry, held, chunk)? {
-        Pick::Carry(n) => println!(rt; "carry {n}")?,
-        Pick::Chunk(n) => println!(rt; "chunk {n}")?,
-        Pick::More => println!(rt; "more")?,
+        Pick::Carry(n) => write!(reply, "carry {n}")?,
+        Pick::Chunk(n) => write!(reply, "chunk {n}")?,
+        Pick::More => reply.write_str("more")?,
     }
     Ok(())
 }

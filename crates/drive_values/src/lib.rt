@@ -7,6 +7,10 @@ use objects::Object;
 use objects::values::Value;
 use std::fmt;
 
+fn mark(set: bool) -> &'static str {
+    if set { "1" } else { "0" }
+}
+
 #[derive(Clone, Copy)]
 pub struct Shown(pub Object);
 
@@ -46,10 +50,10 @@ struct Marks(bool, bool, bool, bool);
 
 impl fmt::Display for Marks {
     fn fmt<W: fmt::Write>(&self, f: &mut fmt::Formatter<W>) -> fmt::Result {
-        let iv = u8::from(self.0);
-        let nt = u8::from(self.1);
-        let sb = u8::from(self.2);
-        let bl = u8::from(self.3);
+        let iv = mark(self.0);
+        let nt = mark(self.1);
+        let sb = mark(self.2);
+        let bl = mark(self.3);
         write!(f, "iv={iv},nt={nt},sb={sb},bl={bl}")
     }
 }
@@ -73,7 +77,7 @@ impl fmt::Display for Fields<Diq> {
 impl fmt::Display for Fields<Qds> {
     fn fmt<W: fmt::Write>(&self, f: &mut fmt::Formatter<W>) -> fmt::Result {
         let qds = self.0;
-        let ov = u8::from(qds.ov);
+        let ov = mark(qds.ov);
         write!(f, "{},ov={ov}", Marks(qds.iv, qds.nt, qds.sb, qds.bl))
     }
 }
@@ -81,7 +85,7 @@ impl fmt::Display for Fields<Qds> {
 impl fmt::Display for Fields<Vti> {
     fn fmt<W: fmt::Write>(&self, f: &mut fmt::Formatter<W>) -> fmt::Result {
         let vti = self.0;
-        let transient = u8::from(vti.transient);
+        let transient = mark(vti.transient);
         write!(
             f,
             "value={},transient={transient},{}",
@@ -93,9 +97,9 @@ impl fmt::Display for Fields<Vti> {
 
 impl fmt::Display for Fields<SeqQd> {
     fn fmt<W: fmt::Write>(&self, f: &mut fmt::Formatter<W>) -> fmt::Result {
-        let iv = u8::from(self.0.iv);
-        let ca = u8::from(self.0.ca);
-        let cy = u8::from(self.0.cy);
+        let iv = mark(self.0.iv);
+        let ca = mark(self.0.ca);
+        let cy = mark(self.0.cy);
         write!(f, "iv={iv},ca={ca},cy={cy},seq={}", self.0.seq)
     }
 }

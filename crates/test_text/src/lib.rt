@@ -1,9 +1,10 @@
-// Text for the programs that test the library: octets as hexadecimal digits, decimal numbers, and what a command ends in
-// where it has no answer.
+// Text for the programs that test the library: octets as hexadecimal digits, decimal numbers, an answer in text, and what a
+// command ends in where it has none.
 #![tactic(auto)]
 
 pub mod numbers;
 pub mod octets;
+pub mod reply;
 pub mod wrong;
 
 // The longest line that `drive` takes, and the most octets that it can hold.

@@ -1,6 +1,6 @@
 // What a command ends in where it has no answer.
 use elements::refusals::Refusal;
-use std::io;
+use std::{fmt, io};
 
 #[derive(Drop)]
 pub enum Wrong {
@@ -17,8 +17,8 @@ impl From<Refusal> for Wrong {
     }
 }
 
-impl From<io::Error> for Wrong {
-    fn from(error: io::Error) -> Wrong {
-        Wrong::Output(error)
+impl From<fmt::Error> for Wrong {
+    fn from(error: fmt::Error) -> Wrong {
+        Wrong::Output(error.into())
     }
 }
