@@ -1,6 +1,7 @@
 // The record of an ASDU as a list of octets: type, sequence, test, negative, cause, originator, common address (2),
 // count; then 16 octets for each of its 127 objects: address (4), type of the value, the value's fields (fields.rt), and 0
 // to the end. Each is put as far as the list reaches, and 16 octets of 0 are an object that is blank.
+use crate::fields;
 use crate::fields::Listed;
 use asdu::Asdu;
 use objects::kinds::Kind;
@@ -70,6 +71,13 @@ impl Listed for Object {
     }
 }
 
+// Inline, so that a place's length is known where it is whole.
+#[inline(always)]
+fn put_object(place: &mut [u8], object: Object) {
+    place.fill(0);
+    fields::put(place, object);
+}
+
 pub fn put_record(out: &mut [u8], asdu: Asdu) {
     let mut rest = out;
     asdu.type_id.put(&mut rest);
@@ -77,9 +85,12 @@ pub fn put_record(out: &mut [u8], asdu: Asdu) {
     [asdu.cause, asdu.originator].put(&mut rest);
     asdu.address.put(&mut rest);
     ((asdu.count % 256) as u8).put(&mut rest);
-    for (mut place, object) in rest.chunks_mut(OBJECT_SIZE).zip(asdu.objects) {
-        place.fill(0);
-        object.put(&mut place);
+    let (places, end) = rest.as_chunks_mut::<OBJECT_SIZE>();
+    for (place, object) in places.iter_mut().zip(&asdu.objects) {
+        put_object(place, *object);
+    }
+    if let Some(object) = asdu.objects.get(places.len()) {
+        put_object(end, *object);
     }
 }
 
