@@ -12,7 +12,7 @@ use test_text::wrong::Wrong;
 use test_text::{OCTETS_SIZE, numbers, octets};
 use told::Told;
 
-// An event that is told a moment alone.
+// An event that is told a moment alone. Kept as an enum: who calls a closure has a `requires`, and no test program has one.
 #[derive(Clone, Copy)]
 pub enum Timed {
     Stop,
