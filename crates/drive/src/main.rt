@@ -100,13 +100,15 @@ impl Bench {
 
     // A line's end has it answered; any other byte is held.
     fn take(&mut self, rt: &impl Print, bytes: &[u8]) -> io::Result<()> {
-        let mut start = 0;
-        for end in memchr::memchr_iter(b'\n', bytes) {
-            self.line.push(bytes.get(start..end).unwrap_or(&[]));
-            self.answer(rt)?;
-            start = end.saturating_add(1);
+        for part in bytes.split_inclusive(|byte| *byte == b'\n') {
+            match part.strip_suffix(b"\n") {
+                Some(rest) => {
+                    self.line.push(rest);
+                    self.answer(rt)?;
+                }
+                None => self.line.push(part),
+            }
         }
-        self.line.push(bytes.get(start..).unwrap_or(&[]));
         Ok(())
     }
 }
