@@ -9,7 +9,7 @@ use Rattle.laws.specs.Lists.{every}
 use Rattle.laws.proofs.Clauses.{every_iff}
 use Rattle.std.specs.Prelude.{Result, Ok, Err}
 use Rattle.laws.specs.Choice.{pick}
-use Rattle.elements.specs.Refusals.{number, refusal, answer, answer_number}
+use Rattle.elements.specs.Refusals.{number, refusal, answer, answer_number, RowsNamed}
 use Rattle.elements.specs.declared.refusals.Refusal.{Refusal}
 use Rattle.elements.specs.declared.refusals.Refusal.TheVariants as Refusal
 
@@ -17,6 +17,10 @@ use Rattle.elements.specs.declared.refusals.Refusal.TheVariants as Refusal
 rows : every (λ (i : ℕ). eqb (number (refusal (suc i))) (suc i)) 33 ≡ true
 unfolding every refusal
 rows = refl
+
+-- and their names
+pub rows_named : RowsNamed
+rows_named = refl
 
 pub number_of_refusal : (n : ℕ) → 1 ≤ n → n ≤ 33 → number (refusal n) ≡ n
 number_of_refusal zero low high = absurd (omega arith)

@@ -1,5 +1,5 @@
 -- Why a call says no: the rows of document 01's table. A refusal has its row's number; 0 is no refusal.
-use Rattle.std.specs.Prelude.{ℕ, ◌-◌, List, [], ◌∷◌, get_or, eqb, Option, Some, None, Result, Ok, Err}
+use Rattle.std.specs.Prelude.{◌≡◌, ℕ, ◌-◌, List, [], ◌∷◌, map, get_or, eqb, Option, Some, None, Result, Ok, Err}
 use Rattle.std.specs.Result.{result_unwrap_or}
 use Rattle.laws.specs.Choice.{pick}
 use Rattle.elements.specs.declared.refusals.Refusal.{Refusal}
@@ -180,3 +180,15 @@ too_many_tests = 32
 
 abbrev pub bad_carry : ℕ
 bad_carry = 33
+
+-- The names in order, and that each is the number of its refusal: so no contract can use a name for another row.
+abbrev pub row_names : List ℕ
+row_names =
+    frame_too_short ∷ wrong_start ∷ frame_too_long ∷ length_mismatch ∷ i_without_asdu ∷ bad_u_control ∷ bad_s_control ∷
+    bad_i_control ∷ asdu_too_short ∷ cause_not_listed ∷ type_not_carried ∷ layout_mismatch ∷ empty_sequence ∷
+    wrong_address ∷ value_out_of_range ∷ wrong_kind ∷ asdu_too_long ∷ output_too_short ∷ outside_limits ∷ link_closed ∷
+    clock_went_back ∷ clock_too_late ∷ link_output_too_short ∷ pool_too_short ∷ queue_full ∷ not_plain_form ∷
+    wrong_receive_number ∷ wrong_send_number ∷ u_not_answered ∷ u_timed_out ∷ i_timed_out ∷ too_many_tests ∷ bad_carry ∷ []
+
+abbrev pub RowsNamed : Type 0
+RowsNamed = map number refusals ≡ row_names
