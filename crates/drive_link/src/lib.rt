@@ -1,6 +1,11 @@
 // The commands of `drive` on a link: `open`, `recv`, `send`, `stop`, `test` and `tick`.
 #![tactic(auto)]
 
+ghost use Rattle.std.specs.Prelude.{◌≡◌, Some, IfOk};
+ghost use Rattle.drive_link.specs.Stations.{station_link};
+
+#[cfg(test)]
+mod tests;
 mod told;
 
 use link::answers::Called;
@@ -101,7 +106,22 @@ impl Station {
         self.tell(reply, called)
     }
 
-    fn tell(&mut self, reply: &mut Reply, called: Called) -> Result<(), Wrong> {
+    // What an event that is told a moment alone is called with. An event of the caller's own, none of `Timed`, is called with
+    // these, and what it answers goes to `tell`.
+    pub fn arguments(
+        &mut self,
+        given: &str,
+    ) -> Result<(Link, &[u8; MIN_POOL], &mut [u8; MIN_OUTPUT], u64), Wrong>
+        ensures { IfOk result (λ parts. station_link self.old ≡ Some parts.0) }
+    {
+        let link = self.link.ok_or(Wrong::Bad)?;
+        let [now] = numbers::take::<1>(given).ok_or(Wrong::Bad)?;
+        Ok((link, &self.pool, &mut self.out, now))
+    }
+
+    pub fn tell(&mut self, reply: &mut Reply, called: Called) -> Result<(), Wrong>
+        ensures { station_link self.new ≡ Some called.link }
+    {
         self.link = Some(called.link);
         let out = &self.out;
         write!(reply, "{}", Told { called, out })?;

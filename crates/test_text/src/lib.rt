@@ -5,6 +5,8 @@
 pub mod numbers;
 pub mod octets;
 pub mod reply;
+#[cfg(test)]
+mod tests;
 pub mod wrong;
 
 // The longest line that `drive` takes, and the most octets that it can hold.

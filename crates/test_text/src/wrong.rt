@@ -1,4 +1,7 @@
 // What a command ends in where it has no answer.
+ghost use Rattle.std.specs.Prelude.{◌≡◌};
+ghost use Rattle.test_text.specs.declared.wrong.Wrong.TheVariants.{Output};
+
 use elements::refusals::Refusal;
 use std::{fmt, io};
 
@@ -14,6 +17,14 @@ pub enum Wrong {
 impl From<Refusal> for Wrong {
     fn from(refusal: Refusal) -> Wrong {
         Wrong::Refused(refusal)
+    }
+}
+
+impl From<io::Error> for Wrong {
+    ghost from_gives = { λ error wrong. wrong ≡ Output error };
+
+    fn from(error: io::Error) -> Wrong {
+        Wrong::Output(error)
     }
 }
 
