@@ -1,4 +1,4 @@
--- The link that a station keeps: the one that was opened last, if that was not refused, as the last call on it left it.
+-- The link that a station keeps: the one that was opened or told last, if opening was not refused.
 use Rattle.std.specs.Prelude.{Option}
 use Rattle.link_state.specs.declared.Link.{Link}
 use Rattle.drive_link.specs.declared.Station.{Station}

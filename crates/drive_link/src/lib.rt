@@ -25,8 +25,8 @@ pub enum Timed {
     Tick,
 }
 
-// The link that was opened last, if that was not refused, and what its ASDUs wait in. The rooms for octets that a call is
-// given and writes stand here, as clearing them would take a good part of a call's time.
+// The link that was opened or told last, if that was not refused, and what its ASDUs wait in. The rooms for octets that a call
+// is given and writes stand here, as clearing them would take a good part of a call's time.
 #[derive(Drop)]
 pub struct Station {
     link: Option<Link>,
@@ -106,8 +106,8 @@ impl Station {
         self.tell(reply, called)
     }
 
-    // What an event that is told a moment alone is called with. An event of the caller's own, none of `Timed`, is called with
-    // these, and what it answers goes to `tell`.
+    // What an event that is told a moment alone is called with: the link, what its ASDUs wait in, an output of zeros and the
+    // moment. An event that is none of `Timed` is called with these, and its answer is given to `tell`.
     pub fn arguments(
         &mut self,
         given: &str,
@@ -116,9 +116,11 @@ impl Station {
     {
         let link = self.link.ok_or(Wrong::Bad)?;
         let [now] = numbers::take::<1>(given).ok_or(Wrong::Bad)?;
+        self.out.fill(0);
         Ok((link, &self.pool, &mut self.out, now))
     }
 
+    // Keeps the link that a call gave, and writes what the call told.
     pub fn tell(&mut self, reply: &mut Reply, called: Called) -> Result<(), Wrong>
         ensures { station_link self.new ≡ Some called.link }
     {
