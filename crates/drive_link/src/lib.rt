@@ -1,8 +1,8 @@
 // The commands of `drive` on a link: `open`, `recv`, `send`, `stop`, `test` and `tick`.
 #![tactic(auto)]
 
-ghost use Rattle.std.specs.Prelude.{◌≡◌, Some, IfOk};
-ghost use Rattle.drive_link.specs.Stations.{station_link};
+ghost use Rattle.std.specs.Prelude.{◌≡◌, Some};
+ghost use Rattle.drive_link.specs.Stations.{station_link, station_pool};
 
 #[cfg(test)]
 mod tests;
@@ -106,27 +106,41 @@ impl Station {
         self.tell(reply, called)
     }
 
-    // What an event that is told a moment alone is called with: the link, what its ASDUs wait in, an output of zeros and the
-    // moment. An event that is none of `Timed` is called with these, and its answer is given to `tell`.
-    pub fn arguments(
-        &mut self,
-        given: &str,
-    ) -> Result<(Link, &[u8; MIN_POOL], &mut [u8; MIN_OUTPUT], u64), Wrong>
-        ensures { IfOk result (λ parts. station_link self.old ≡ Some parts.0) }
-    {
-        let link = self.link.ok_or(Wrong::Bad)?;
-        let [now] = numbers::take::<1>(given).ok_or(Wrong::Bad)?;
-        self.out.fill(0);
-        Ok((link, &self.pool, &mut self.out, now))
-    }
-
-    // Keeps the link that a call gave, and writes what the call told.
-    pub fn tell(&mut self, reply: &mut Reply, called: Called) -> Result<(), Wrong>
-        ensures { station_link self.new ≡ Some called.link }
+    fn tell(&mut self, reply: &mut Reply, called: Called) -> Result<(), Wrong>
+        ensures { (station_link self.new ≡ Some called.link) × (station_pool self.new ≡ station_pool self.old) }
     {
         self.link = Some(called.link);
         let out = &self.out;
         write!(reply, "{}", Told { called, out })?;
         Ok(())
+    }
+
+    // An event that is none of `Timed` is called with the link, the pool and an output of the caller's, and `tell_called` takes
+    // its answer.
+    pub fn link(&self) -> Option<Link>
+        ensures { result ≡ station_link self.now }
+    {
+        let Station { link, .. } = self;
+        *link
+    }
+
+    pub fn pool(&self) -> &[u8; MIN_POOL]
+        ensures { result.now ≡ station_pool self.now }
+    {
+        let Station { pool, .. } = self;
+        pool
+    }
+
+    // Keeps the link that the call gave, and tells what it wrote to `out`.
+    pub fn tell_called(
+        &mut self,
+        reply: &mut Reply,
+        called: Called,
+        out: &[u8; MIN_OUTPUT],
+    ) -> Result<(), Wrong>
+        ensures { (station_link self.new ≡ Some called.link) × (station_pool self.new ≡ station_pool self.old) }
+    {
+        self.out = *out;
+        self.tell(reply, called)
     }
 }

@@ -1,54 +1,113 @@
 use super::*;
-
-const TEST_ACT: [u8; 6] = [0x68, 4, 0x43, 0, 0, 0];
+use std::cell::Cell;
+use std::fmt::Display;
+use std::io;
+use std::process::Abort;
 
 const SETTINGS: &str = "12 8 16 15000 10000 20000 1000";
 
-// A caller's own event: its arguments, the call, and `tell` of its answer.
+const PAPER_SIZE: usize = 128;
+
+// What was printed last, as far as it fits, and how long it was.
+#[derive(Drop)]
+struct Paper {
+    bytes: Cell<[u8; PAPER_SIZE]>,
+    len: Cell<usize>,
+}
+
+impl Paper {
+    fn new() -> Paper {
+        Paper {
+            bytes: Cell::new([0; PAPER_SIZE]),
+            len: Cell::new(0),
+        }
+    }
+
+    fn says(&self, text: &str) -> bool {
+        self.bytes.get().get(..self.len.get()) == Some(text.as_bytes())
+    }
+}
+
+impl Print for Paper {
+    fn print<D: Display + Drop>(&self, _value: D) -> io::Result<()> {
+        Err(io::Error::from(io::ErrorKind::Unsupported))
+    }
+
+    fn println<D: Display + Drop>(&self, _value: D) -> io::Result<()> {
+        Err(io::Error::from(io::ErrorKind::Unsupported))
+    }
+
+    fn write_all(&self, text: &[u8]) -> io::Result<()> {
+        let mut bytes = [0; PAPER_SIZE];
+        for (place, byte) in bytes.iter_mut().zip(text) {
+            *place = *byte;
+        }
+        self.bytes.set(bytes);
+        self.len.set(text.len());
+        Ok(())
+    }
+}
+
+fn opened(rt: &impl Abort, reply: &mut Reply) -> Station {
+    let mut station = Station::new();
+    assert!(rt; station.link().is_none());
+    assert!(rt; station.open(reply, SETTINGS).is_ok());
+    assert!(rt; reply.send(&Paper::new()).is_ok());
+    station
+}
+
+// A tick that is later than it is told.
 fn tick_after(
     station: &mut Station,
     reply: &mut Reply,
-    given: &str,
     more: u64,
+    given: &str,
 ) -> Result<(), Wrong> {
-    let (link, pool, out, now) = station.arguments(given)?;
-    let called = link_time::tick(link, pool, out, now.saturating_add(more));
-    station.tell(reply, called)
+    let link = station.link().ok_or(Wrong::Bad)?;
+    let [now] = numbers::take::<1>(given).ok_or(Wrong::Bad)?;
+    let mut out = [0; MIN_OUTPUT];
+    let called = link_time::tick(link, station.pool(), &mut out, now.saturating_add(more));
+    station.tell_called(reply, called, &out)
 }
 
 #[test]
-fn a_callers_own_event_leaves_the_link_and_output_of_any_other(rt: HostRuntime) {
+fn a_callers_own_event_is_told_as_any_other(rt: HostRuntime) {
+    let text = "0 680443000000 full=0 came=0 held=0 waiting=0 closed=0 reason=0\n";
     let mut reply = Reply::new();
-    let mut own = Station::new();
-    let mut other = Station::new();
-    assert!(rt; own.open(&mut reply, SETTINGS).is_ok());
-    assert!(rt; other.open(&mut reply, SETTINGS).is_ok());
-    assert!(rt; tick_after(&mut own, &mut reply, "1000", 20000).is_ok());
+    let paper = Paper::new();
+    let mut own = opened(&rt, &mut reply);
+    assert!(rt; tick_after(&mut own, &mut reply, 20000, "1000").is_ok());
+    assert!(rt; reply.send(&paper).is_ok());
+    assert!(rt; paper.says(text));
+    let mut other = opened(&rt, &mut reply);
     assert!(rt; other.at(&mut reply, Timed::Tick, "21000").is_ok());
-    assert!(rt; own.link.is_some());
-    assert_eq!(rt; own.link, other.link);
-    assert_eq!(rt; own.out.first_chunk::<6>(), Some(&TEST_ACT));
-    assert_eq!(rt; own.out, other.out);
+    assert!(rt; reply.send(&paper).is_ok());
+    assert!(rt; paper.says(text));
+    assert!(rt; own.link().is_some());
+    assert_eq!(rt; own.link(), other.link());
+    assert_eq!(rt; own.pool(), other.pool());
 }
 
+// What waits after a Send with a full window is in the pool that the next event is called with.
 #[test]
-fn an_event_has_a_link_and_one_number(rt: HostRuntime) {
+fn what_waits_is_in_the_pool(rt: HostRuntime) {
     let mut reply = Reply::new();
     let mut station = Station::new();
-    assert!(rt; station.arguments("1000").is_err());
-    assert!(rt; station.open(&mut reply, SETTINGS).is_ok());
-    assert!(rt; station.arguments("").is_err());
-    assert!(rt; station.arguments("1000 1").is_err());
-    assert!(rt; station.arguments("1000").is_ok());
-}
-
-#[test]
-fn an_output_of_zeros_is_handed_over(rt: HostRuntime) {
-    let mut reply = Reply::new();
-    let mut station = Station::new();
-    assert!(rt; station.open(&mut reply, SETTINGS).is_ok());
-    assert!(rt; station.at(&mut reply, Timed::Test, "1000").is_ok());
-    assert_eq!(rt; station.out.first_chunk::<6>(), Some(&TEST_ACT));
-    assert!(rt; station.arguments("1000").is_ok());
-    assert_eq!(rt; station.out, [0; MIN_OUTPUT]);
+    assert!(rt;
+        station
+            .open(&mut reply, "1 1 16 15000 10000 20000 1000")
+            .is_ok()
+    );
+    assert!(rt;
+        station
+            .send(&mut reply, "01010300010001000001 1000")
+            .is_ok()
+    );
+    assert_eq!(rt; station.pool().first_chunk::<2>(), Some(&[0, 0]));
+    assert!(rt;
+        station
+            .send(&mut reply, "01010300010001000001 1000")
+            .is_ok()
+    );
+    assert_eq!(rt; station.pool().first_chunk::<4>(), Some(&[1, 1, 3, 0]));
 }
