@@ -115,8 +115,8 @@ impl Station {
         Ok(())
     }
 
-    // An event that is none of `Timed` is called with the link, the pool and an output of the caller's, and `tell_called` takes
-    // its answer.
+    // An event that is none of `Timed` is called with the link, the pool and an output of zeros, and `tell_called` takes its
+    // answer.
     pub fn link(&self) -> Option<Link>
         ensures { result ≡ station_link self.now }
     {

@@ -1,4 +1,6 @@
 use super::*;
+use elements::refusals::Refusal;
+use link::answers::Done;
 use std::cell::Cell;
 use std::fmt::Display;
 use std::io;
@@ -86,6 +88,45 @@ fn a_callers_own_event_is_told_as_any_other(rt: HostRuntime) {
     assert!(rt; own.link().is_some());
     assert_eq!(rt; own.link(), other.link());
     assert_eq!(rt; own.pool(), other.pool());
+}
+
+fn says(rt: &impl Abort, station: &mut Station, answer: Result<Done, Refusal>, text: &str) {
+    let Some(link) = station.link() else {
+        return assert!(rt; false, "there is no link");
+    };
+    let mut out = [0; MIN_OUTPUT];
+    out[..8].copy_from_slice(&[1, 2, 3, 4, 5, 6, 7, 8]);
+    let mut reply = Reply::new();
+    let paper = Paper::new();
+    assert!(rt;
+        station
+            .tell_called(&mut reply, Called { link, answer }, &out)
+            .is_ok()
+    );
+    assert!(rt; reply.send(&paper).is_ok());
+    assert!(rt; paper.says(text), "{text}");
+}
+
+#[test]
+fn all_of_an_answer_is_told(rt: HostRuntime) {
+    let mut station = opened(&rt, &mut Reply::new());
+    let done = Done {
+        written: 9,
+        full: true,
+        came: true,
+    };
+    says(
+        &rt,
+        &mut station,
+        Ok(done),
+        "0 010203040506070800 full=1 came=1 held=0 waiting=0 closed=0 reason=0\n",
+    );
+    says(
+        &rt,
+        &mut station,
+        Err(Refusal::WrongKind),
+        "16 - full=0 came=0 held=0 waiting=0 closed=0 reason=0\n",
+    );
 }
 
 // What waits after a Send with a full window is in the pool that the next event is called with.
